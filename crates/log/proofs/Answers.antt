@@ -1,0 +1,32 @@
+-- Laws of answers in order: what it takes to pass, and which refusal is given. Assumes nothing.
+use Prim.Native.Nat.{ℕ}
+use mathlib.Core.Path.{_≡_, refl, sym, _∙_, ap}
+use mathlib.Core.Bool.{Bool, true, false, true≢false}
+use Rattle.log.specs.Answer.{Answer, gives, refused, passed, row, _then_}
+
+-- a refusal is no answer
+is-refused : {A : Type 0} → Answer A → Bool
+is-refused (gives a) = false
+is-refused (refused n p) = true
+
+pub never-both : {A : Type 0} (a : A) (n p : ℕ) → refused n p ≡ gives a → ⊥
+unfolding is-refused
+never-both a n p e = true≢false (ap is-refused e)
+
+pub then-left : (a b : Answer (Unit {0})) → (a then b) ≡ passed → a ≡ passed
+then-left (gives tt) b e = refl
+then-left (refused n p) b e = e
+
+pub then-right : (a b : Answer (Unit {0})) → (a then b) ≡ passed → b ≡ passed
+then-right (gives tt) b e = e
+then-right (refused n p) b e = absurd (never-both tt n p e)
+
+pub row-fails : (n : ℕ) (b : Bool) (p : ℕ) → row n b p ≡ passed → b ≡ false
+row-fails n true p e = absurd (never-both tt n p e)
+row-fails n false p e = refl
+
+pub passed-then : {A : Type 0} (a : Answer (Unit {0})) (b : Answer A) → a ≡ passed → (a then b) ≡ b
+passed-then a b e = rw e refl
+
+pub refused-then : (a b : Answer (Unit {0})) {n p : ℕ} → a ≡ refused n p → (a then b) ≡ a
+refused-then a b e = rw e refl

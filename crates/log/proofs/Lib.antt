@@ -1,0 +1,10 @@
+pub mod Answers
+pub mod KindBytes
+pub mod Forms
+pub mod Steps
+pub mod Histories
+pub mod Passing
+pub mod Ends
+pub mod Records
+pub mod Lengths
+pub mod Sources

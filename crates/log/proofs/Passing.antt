@@ -1,0 +1,50 @@
+-- What a record has that passes: its numbers are in their ranges, and none of 6 to 8 applies. Assumes nothing.
+use Prim.Native.Nat.{ℕ, _<_}
+use native.Mathlib.Omega.{arith}
+use mathlib.Core.Path.{_≡_, refl, sym, _∙_, ap}
+use mathlib.Core.List.{List}
+use mathlib.Core.Bool.{Bool, true, false, not, _&&_, cond}
+use lib.Dec.{eqb, ltb}
+use borrow.Author.Tests.{ltb-true, eqb-true, not-false}
+use Rattle.sets.proofs.Truth.{and-left, and-right}
+use Rattle.log.specs.Answer.{Answer, passed, row, _then_}
+use Rattle.log.specs.Record.{transactions, items, sites, kind, transaction, item, site, records, commit-kind}
+use Rattle.log.specs.Refusal.{known-kind, in-range, form-answer, history-answer, record-answer}
+use Rattle.log.specs.Kept.{InRange}
+use Rattle.log.proofs.Answers.{then-left, then-right, row-fails}
+
+-- a commit's item and site are 0, so they are in range too
+low-numbers : (c : Bool) (x s : ℕ) → cond c (eqb x 0 && eqb s 0) (ltb x items && ltb s sites) ≡ true → (x < items) × (s < sites)
+low-numbers true x s h =
+    let e = eqb-true x 0 (and-left (eqb x 0) (eqb s 0) h) in
+    let f = eqb-true s 0 (and-right (eqb x 0) (eqb s 0) h) in
+    (omega arith, omega arith)
+low-numbers false x s h = (ltb-true x items (and-left (ltb x items) (ltb s sites) h), ltb-true s sites (and-right (ltb x items) (ltb s sites) h))
+
+module _ (k b t x s : ℕ) (h : form-answer k b t x s ≡ passed) where
+  pub form-known : known-kind b ≡ true
+  unfolding form-answer
+  form-known = not-false (known-kind b) (row-fails 4 (not (known-kind b)) k (then-left (row 4 (not (known-kind b)) k) (row 5 (not (in-range b t x s)) k) h))
+
+  pub form-in-range : in-range b t x s ≡ true
+  unfolding form-answer
+  form-in-range = not-false (in-range b t x s) (row-fails 5 (not (in-range b t x s)) k (then-right (row 4 (not (known-kind b)) k) (row 5 (not (in-range b t x s)) k) h))
+
+  pub form-low : (t < transactions) × ((x < items) × (s < sites))
+  unfolding in-range
+  form-low =
+      let both = form-in-range in (
+        ltb-true t transactions (and-right (cond (commit-kind b) (eqb x 0 && eqb s 0) (ltb x items && ltb s sites)) (ltb t transactions) both),
+        low-numbers (commit-kind b) x s (and-left (cond (commit-kind b) (eqb x 0 && eqb s 0) (ltb x items && ltb s sites)) (ltb t transactions) both),
+      )
+
+module _ (log : List ℕ) (k : ℕ) where
+  pub in-range-record : k < records log → form-answer k (kind log k) (transaction log k) (item log k) (site log k) ≡ passed → InRange log k
+  in-range-record l h =
+      let low = form-low k (kind log k) (transaction log k) (item log k) (site log k) h in
+      record { there = l; transaction-low = low .0; item-low = low .1 .0; site-low = low .1 .1 }
+
+  pub in-range-passed : k < records log → record-answer log k ≡ passed → InRange log k
+  unfolding record-answer
+  in-range-passed l h =
+      in-range-record l (then-left (form-answer k (kind log k) (transaction log k) (item log k) (site log k)) (history-answer log k) h)

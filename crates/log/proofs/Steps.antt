@@ -1,0 +1,173 @@
+-- What is kept, from record k to record k + 1: each law takes the sets as the code stores them. A set gains the record's
+-- transaction where the record counts, and stays where it does not. Assumes nothing.
+use Prim.Native.Nat.{ℕ, _+_, _*_, _<_}
+use native.Mathlib.Omega.{arith}
+use mathlib.Core.Path.{_≡_, refl, sym, _∙_, ap, ap₂}
+use mathlib.Core.List.{List}
+use mathlib.Core.Bool.{Bool, true, false, _&&_, _||_}
+use mathlib.Core.Option.{some}
+use mathlib.Core.Logic.{_⊎_, ⊎-elim}
+use lib.Dec.{eqb}
+use lib.ListN.{length, getD, set, replicate, length-set, length-replicate, List·getD-eq-default, getD-replicate}
+use lib.Seq.{getD-set-same, getD-set-other}
+use native.Mathlib.Decide.{ℕ-discrete, decLt}
+use borrow.Author.Tests.{eq-eqb, ne-eqb, eqb-true, eqb-false}
+use Rattle.sets.specs.Search.{some-below, first-below}
+use Rattle.sets.specs.Bits.{has}
+use Rattle.sets.proofs.Truth.{either, clash, and-always, and-nothing, or-nothing, or-inl, or-inr}
+use Rattle.sets.proofs.Searches.{some-more, some-zero, none-some, first-hit, first-stays}
+use Rattle.sets.proofs.Members.{stored, has-zero}
+use Rattle.log.specs.Record.{transactions, items, sites, transaction, item, site, copy-number, copy-of, is-by, is-write, is-commit, writes-copy, writes-item, named, committed}
+use Rattle.log.specs.Kept.{InRange, Writers, Ended, Firsts}
+
+-- the copy of a record in range has its place in the table
+pub copy-low : (log : List ℕ) (k : ℕ) → InRange log k → copy-of log k < items * sites
+unfolding copy-number copy-of
+copy-low log k w = omega arith
+
+module _ (log : List ℕ) (writes : ℕ → ℕ → Bool) (wide k : ℕ) (table : List ℕ) (w : Writers log writes wide k table) where
+  -- the transaction of a record that writes d is added to the entry d
+  pub writers-add : (d t v : ℕ) → d < wide → ((c : ℕ) → writes k c ≡ eqb d c) → t ≡ transaction log k
+      → ((i : ℕ) → has v i ≡ (has (getD table d 0) i || eqb t i)) → Writers log writes wide (k + 1) (set table d v)
+  unfolding is-by
+  writers-add d t v l e q h =
+      record {
+        whole = simp length-set (w .whole);
+        said = λ c i.
+            stored table d v t (rw (w .whole) l) h c i
+            ∙ ap₂ _||_ (w .said c i) (ap₂ (λ (x : ℕ) (b : Bool). eqb x i && b) q (sym (e c)))
+            ∙ sym (some-more (λ j. is-by log j i && writes j c) k);
+      }
+
+  -- a record that writes nothing adds nothing
+  pub writers-stay : ((c : ℕ) → writes k c ≡ false) → Writers log writes wide (k + 1) table
+  writers-stay e =
+      record {
+        whole = w .whole;
+        said = λ c t.
+            w .said c t
+            ∙ sym (some-more (λ i. is-by log i t && writes i c) k
+            ∙ ap (λ (b : Bool). some-below k (λ i. is-by log i t && writes i c) || b) (ap (λ (b : Bool). is-by log k t && b) (e c) ∙ and-nothing (is-by log k t))
+            ∙ or-nothing (some-below k (λ i. is-by log i t && writes i c)));
+      }
+
+-- before the first record nothing is written
+zeros : (n c : ℕ) → getD {A = ℕ} (replicate n 0) c 0 ≡ 0
+zeros n c = go (decLt c n)
+  where
+    go : Dec (c < n) → getD {A = ℕ} (replicate n 0) c 0 ≡ 0
+    go (yes l) = getD-replicate n c 0 0 l
+    go (no l) = List·getD-eq-default (replicate n 0) 0 (simp length-replicate (omega arith))
+
+pub writers-start : (log : List ℕ) (writes : ℕ → ℕ → Bool) (wide : ℕ) → Writers log writes wide 0 (replicate wide 0)
+writers-start log writes wide =
+    record {
+      whole = length-replicate {A = ℕ} wide 0;
+      said = λ c t. ap (λ (x : ℕ). has x t) (zeros wide c) ∙ has-zero t ∙ sym (some-zero (λ i. is-by log i t && writes i c));
+    }
+
+module _ (log : List ℕ) (k : ℕ) where
+  -- what a write writes, and that no other record writes
+  pub copy-writes : is-write log k ≡ true → (c : ℕ) → writes-copy log k c ≡ eqb (copy-of log k) c
+  unfolding writes-copy
+  copy-writes e c = rw e refl
+
+  pub item-writes : is-write log k ≡ true → (x : ℕ) → writes-item log k x ≡ eqb (item log k) x
+  unfolding writes-item
+  item-writes e x = rw e refl
+
+  pub copy-silent : is-write log k ≡ false → (c : ℕ) → writes-copy log k c ≡ false
+  unfolding writes-copy
+  copy-silent e c = rw e refl
+
+  pub item-silent : is-write log k ≡ false → (x : ℕ) → writes-item log k x ≡ false
+  unfolding writes-item
+  item-silent e x = rw e refl
+
+-- commits
+pub ended-start : (log : List ℕ) → Ended log 0 0
+unfolding committed
+ended-start log = record { said = λ t. has-zero t ∙ sym (some-zero (λ e. is-by log e t && is-commit log e)) }
+
+module _ (log : List ℕ) (k ended : ℕ) (w : Ended log k ended) where
+  commits-more : (t : ℕ) → committed log t (k + 1) ≡ (committed log t k || (is-by log k t && is-commit log k))
+  unfolding committed
+  commits-more t = some-more (λ e. is-by log e t && is-commit log e) k
+
+  pub ended-add : (t v : ℕ) → is-commit log k ≡ true → t ≡ transaction log k → ((i : ℕ) → has v i ≡ (has ended i || eqb t i))
+      → Ended log (k + 1) v
+  unfolding is-by
+  ended-add t v e q h =
+      record {
+        said = λ i.
+            h i
+            ∙ ap₂ _||_ (w .said i) (ap (λ (x : ℕ). eqb x i) q ∙ sym (ap (λ (b : Bool). eqb (transaction log k) i && b) e ∙ and-always (eqb (transaction log k) i)))
+            ∙ sym (commits-more i);
+      }
+
+  pub ended-stay : is-commit log k ≡ false → Ended log (k + 1) ended
+  ended-stay e =
+      record {
+        said = λ t.
+            w .said t
+            ∙ sym (commits-more t
+            ∙ ap (λ (b : Bool). committed log t k || b) (ap (λ (b : Bool). is-by log k t && b) e ∙ and-nothing (is-by log k t))
+            ∙ or-nothing (committed log t k));
+      }
+
+-- names
+pub firsts-start : (log : List ℕ) → Firsts log 0 0 (replicate transactions 0)
+unfolding named
+firsts-start log =
+    record {
+      whole = length-replicate {A = ℕ} transactions 0;
+      said = λ t. has-zero t ∙ sym (some-zero (λ e. is-by log e t));
+      first = λ t h. absurd (clash (some-below 0 (λ e. is-by log e t)) h (some-zero (λ e. is-by log e t)));
+    }
+
+module _ (log : List ℕ) (k seen : ℕ) (firsts : List ℕ) (w : Firsts log k seen firsts) where
+  names-more : (t : ℕ) → named log t (k + 1) ≡ (named log t k || is-by log k t)
+  unfolding named
+  names-more t = some-more (λ e. is-by log e t) k
+
+  stays : (t : ℕ) → named log t k ≡ true → first-below (k + 1) (λ e. is-by log e t) ≡ some (getD firsts t 0)
+  stays t h = first-stays (λ e. is-by log e t) k (getD firsts t 0) (w .first t h)
+
+  -- a transaction that was named before
+  pub firsts-stay : (own : ℕ) → own ≡ transaction log k → has seen own ≡ true → Firsts log (k + 1) seen firsts
+  unfolding is-by
+  firsts-stay own e h = record { whole = w .whole; said = λ t. w .said t ∙ sym (again t); first = λ t q. stays t (sym (again t) ∙ q) }
+    where
+      again : (t : ℕ) → named log t (k + 1) ≡ named log t k
+      again t = names-more t ∙ ap (λ (x : ℕ). named log t k || eqb x t) (sym e) ∙ go (ℕ-discrete own t)
+        where
+          go : Dec (own ≡ t) → (named log t k || eqb own t) ≡ named log t k
+          go (yes q) = rw (← q, sym (w .said own) ∙ h) refl
+          go (no q) = rw (ne-eqb own t q, or-nothing (named log t k)) refl
+
+  -- a transaction that is named for the first time
+  pub firsts-add : (own v : ℕ) → own ≡ transaction log k → own < transactions → has seen own ≡ false
+      → ((t : ℕ) → has v t ≡ (has seen t || eqb own t)) → Firsts log (k + 1) v (set firsts own k)
+  unfolding is-by named
+  firsts-add own v s l f h =
+      record {
+        whole = simp length-set (w .whole);
+        said = λ t. h t ∙ ap (λ (b : Bool). b || eqb own t) (w .said t) ∙ sym (more t);
+        first = λ t q. go t (ℕ-discrete t own) q;
+      }
+    where
+      more : (t : ℕ) → named log t (k + 1) ≡ (named log t k || eqb own t)
+      more t = names-more t ∙ ap (λ (x : ℕ). named log t k || eqb x t) (sym s)
+
+      fresh : (e : ℕ) → e < k → is-by log e own ≡ false
+      fresh = none-some (λ e. is-by log e own) k (sym (w .said own) ∙ f)
+
+      go : (t : ℕ) → Dec (t ≡ own) → named log t (k + 1) ≡ true
+          → first-below (k + 1) (λ e. is-by log e t) ≡ some (getD (set firsts own k) t 0)
+      go t (yes e) q =
+          rw (e, getD-set-same firsts own k 0 (rw (w .whole) l))
+          (first-hit (λ i. is-by log i own) (k + 1) k (omega arith) fresh (eq-eqb (transaction log k) own (sym s)))
+      go t (no e) q = rw (getD-set-other firsts own t k 0 e) (stays t older)
+        where
+          older : named log t k ≡ true
+          older = sym (more t ∙ ap (λ (b : Bool). named log t k || b) (ne-eqb own t (λ r. e (sym r))) ∙ or-nothing (named log t k)) ∙ q

@@ -1,0 +1,152 @@
+-- `log::check::content_answer` meets its contract. The invariant: the first k records have passed, and what is kept is what has
+-- happened before record k. Assumes nothing.
+use borrow.Author.Needs.{needs}
+use native.Mathlib.Omega.{arith}
+use mathlib.Core.Path.{_≡_, _∙_, sym, ap}
+use mathlib.Core.List.{List}
+use Prim.Native.Nat.{ℕ, _<_, _≤_, _-_, _*_}
+use denote.Ref.{now}
+use Rattle.log.specs.Answer.{passed}
+use Rattle.log.specs.Record.{items, sites, records, writes-copy, writes-item}
+use Rattle.log.specs.Refusal.{record-answer, records-answer}
+use Rattle.log.specs.Numbers.{checked-says}
+use Rattle.log.specs.Kept.{CopyWriters, ItemWriters, Ended, Firsts, InRange}
+use Rattle.log.proofs.Steps.{writers-start, ended-start, firsts-start}
+use Rattle.log.proofs.Passing.{in-range-passed}
+use Rattle.log.proofs.Records.{no-records, one-more, content-refused, content-ends}
+use Rattle.log.proofs.check.content_answer.Statement.{statement}
+use Rattle.log.proofs.check.content_answer.Tie as tie
+use Rattle.log.proofs.check.content_answer.Reads as reads
+use Rattle.log.proofs.check.content_answer.Lts as lts
+use Rattle.log.proofs.check.end_answer.Reads as end-answer-reads
+use Rattle.log.proofs.check.record_answer.Reads as record-answer-reads
+use Rattle.log.proofs.kept.keep_commit.Reads as keep-commit-reads
+use Rattle.log.proofs.kept.keep_first.Reads as keep-first-reads
+use Rattle.log.proofs.kept.keep_write.Reads as keep-write-reads
+
+abbrev Inv-loop : tie.InvT-loop
+Inv-loop log copies₀ items₀ firsts₀ seen₀ ended₀ n k₀ copies items firsts seen ended k =
+    (k ≤ n) × (records-answer log k ≡ passed) × CopyWriters log k copies × ItemWriters log k items × Firsts log k seen firsts × Ended log k ended
+
+abbrev μ-loop : tie.MeasureT-loop
+μ-loop log copies₀ items₀ firsts₀ seen₀ ended₀ n k₀ copies items firsts seen ended k = n - k
+
+loop-holds : tie.Need-loop-holds Inv-loop μ-loop
+loop-holds c =
+    let log = now (c .before .args .log) in
+    (omega arith, no-records log, writers-start log (writes-copy log) (items * sites), writers-start log (writes-item log) items, firsts-start log, ended-start log)
+
+-- in a turn
+module _ (c : tie.In-loop Inv-loop μ-loop) where
+  abbrev log : List ℕ
+  log = now (c .before .before .before .args .log)
+
+  abbrev k : ℕ
+  k = c .before .loop .k
+
+  there : k < records log
+  unfolding records
+  there = c .loop-test .taken
+
+-- where record k has passed
+module _ (c : tie.After-enum-told2 Inv-loop μ-loop) where
+  abbrev turn : tie.In-loop Inv-loop μ-loop
+  turn = c .before .before .before .before .before
+
+  passes : record-answer (log turn) (k turn) ≡ passed
+  passes = sym (c .before .before .record-answer .ensures) ∙ ap checked-says (c .enum-told2 .given .1)
+
+  right : InRange (log turn) (k turn)
+  right = in-range-passed (log turn) (k turn) (there turn) passes
+
+record-answer-requires : tie.Need-record-answer-requires Inv-loop μ-loop
+record-answer-requires c κs =
+    let e = c .before .before in
+    let inv = e .before .loop .inv in
+    (there e, (inv .2, (inv .3, inv .5)))
+
+enum-told : tie.Need-enum-told Inv-loop μ-loop
+enum-told c = search needs
+
+returns : tie.Need-returns Inv-loop μ-loop
+returns c =
+    let a = c .before .before in
+    let e = a .before .before .before in
+    let is-refused = ap checked-says (c .enum-told .given .1) in
+    is-refused ∙ sym (content-refused (log e) (k e) (there e) (e .before .loop .inv .1) (sym (a .record-answer .ensures) ∙ is-refused))
+
+enum-told-2 : tie.Need-enum-told-2 Inv-loop μ-loop
+enum-told-2 c = search needs
+
+keep-write-requires : tie.Need-keep-write-requires Inv-loop μ-loop
+keep-write-requires c κs =
+    let e = c .before .before in
+    let inv = turn e .before .loop .inv in
+    (right e, (inv .2, inv .3))
+
+keep-first-requires : tie.Need-keep-first-requires Inv-loop μ-loop
+keep-first-requires c κs =
+    let e = c .before .before .before .before in
+    (right e, turn e .before .loop .inv .4)
+
+keep-commit-requires : tie.Need-keep-commit-requires Inv-loop μ-loop
+keep-commit-requires c κs =
+    let e = c .before .before .before .before .before in
+    (right e, turn e .before .loop .inv .5)
+
+add-k : tie.Need-add-k Inv-loop μ-loop
+add-k c = let e = turn (c .before .before .before .before .before .before) in omega (arith, e .loop-test .taken, e .before .before .before .good)
+
+loop-less : tie.Need-loop-less Inv-loop μ-loop
+loop-less c = omega arith
+
+loop-again : tie.Need-loop-again Inv-loop μ-loop
+loop-again c =
+    let at-first = c .before in
+    let at-write = at-first .before .before in
+    let e = at-write .before .before .before in
+    let t = turn e in (
+      omega (arith, t .loop-test .taken),
+      one-more (log t) (k t) (t .before .loop .inv .1) (passes e),
+      at-write .keep-write .ensures .0,
+      at-write .keep-write .ensures .1,
+      at-first .keep-first .ensures,
+      c .keep-commit .ensures,
+    )
+
+-- after the last turn k is the number of records
+module _ (c : tie.After-loop Inv-loop μ-loop) where
+  at-end : c .before .loop .k ≡ records (now (c .before .before .before .args .log))
+  unfolding records
+  at-end = let inv = c .before .loop .inv .0 in omega arith
+
+end-answer-requires : tie.Need-end-answer-requires Inv-loop μ-loop
+end-answer-requires c κs =
+    let inv = c .before .before .loop .inv in
+    rw (← at-end (c .before)) (inv .4, inv .5)
+
+returns-2 : tie.Need-returns-2 Inv-loop μ-loop
+returns-2 c =
+    let e = c .before .before in
+    let log = now (e .before .before .before .args .log) in
+    c .end-answer .ensures ∙ sym (content-ends log (rw (← at-end e) (e .before .loop .inv .1)))
+
+pub content-answer-spec : {M : Type 1} → statement M
+content-answer-spec =
+    tie.close
+    (tie.spec
+    Inv-loop
+    μ-loop
+    loop-holds
+    record-answer-requires
+    enum-told
+    returns
+    enum-told-2
+    keep-write-requires
+    keep-first-requires
+    keep-commit-requires
+    add-k
+    loop-less
+    loop-again
+    end-answer-requires
+    returns-2)

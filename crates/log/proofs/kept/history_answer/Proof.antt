@@ -1,0 +1,74 @@
+-- `log::kept::history_answer` meets its contract: number 6 is one look at a set, and 7 and 8 are asked of reads alone.
+-- Assumes nothing.
+use borrow.Author.Needs.{needs}
+use mathlib.Core.Path.{_≡_, _∙_, sym}
+use mathlib.Core.Bool.{false}
+use mathlib.Core.List.{List}
+use Prim.Native.Nat.{ℕ}
+use denote.Ref.{now}
+use Rattle.log.specs.Refusal.{after-commit}
+use Rattle.log.proofs.KindBytes.{a-read, no-read}
+use Rattle.log.proofs.Histories.{gives-6, skips-6, after-kept, other-passes}
+use Rattle.log.proofs.kept.history_answer.Statement.{statement}
+use Rattle.log.proofs.kept.history_answer.Tie as tie
+use Rattle.log.proofs.kept.history_answer.Reads as reads
+use Rattle.log.proofs.kept.history_answer.Lts as lts
+use Rattle.log.proofs.kept.read_answer.Reads as read-answer-reads
+use Rattle.log.proofs.record.kind_at.Reads as kind-at-reads
+use Rattle.log.proofs.record.transaction_at.Reads as transaction-at-reads
+use Rattle.sets.proofs.has_member.Reads as has-member-reads
+
+-- where number 6 has been tried
+module _ (c : tie.After-has-member) where
+  abbrev log : List ℕ
+  log = now (c .before .before .before .args .log)
+
+  abbrev k : ℕ
+  k = c .before .before .before .args .k
+
+  said-6 : c .has-member .result ≡ after-commit log k
+  said-6 =
+      let s = c .before .before .before in
+      c .has-member .ensures
+      ∙ after-kept log k (s .args .ended) (c .before .transaction-at .result) (s .pre .1 .1 .1) (c .before .transaction-at .ensures .0)
+
+transaction-at-requires : tie.Need-transaction-at-requires
+transaction-at-requires c κs = search needs
+
+has-member-requires : tie.Need-has-member-requires
+has-member-requires c κs = search needs
+
+returns : tie.Need-returns
+returns c = sym (gives-6 (log (c .before)) (k (c .before)) (sym (said-6 (c .before)) ∙ c .if1 .taken))
+
+kind-at-requires : tie.Need-kind-at-requires
+kind-at-requires c κs = search needs
+
+read-answer-requires : tie.Need-read-answer-requires
+read-answer-requires c κs =
+    let e = c .before .before .before in
+    let s = e .before .before .before in
+    (s .pre .0, (a-read (log e) (k e) (sym (c .before .kind-at .ensures) ∙ c .if2 .taken), (s .pre .1 .0, s .pre .1 .1 .0)))
+
+returns-2 : tie.Need-returns-2
+returns-2 c =
+    let e = c .before .before .before .before in
+    c .read-answer .ensures ∙ sym (skips-6 (log e) (k e) (sym (said-6 e) ∙ c .before .before .before .if1 .left))
+
+returns-3 : tie.Need-returns-3
+returns-3 c =
+    let e = c .before .before .before in
+    sym (skips-6 (log e) (k e) (sym (said-6 e) ∙ c .before .before .if1 .left)
+    ∙ other-passes (log e) (k e) (no-read (log e) (k e) (λ q. c .if2 .left (c .before .kind-at .ensures ∙ q))))
+
+pub history-answer-spec : {M : Type 1} → statement M
+history-answer-spec =
+    tie.close
+    (tie.spec
+    transaction-at-requires
+    has-member-requires
+    returns
+    kind-at-requires
+    read-answer-requires
+    returns-2
+    returns-3)

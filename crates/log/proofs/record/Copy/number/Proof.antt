@@ -1,0 +1,24 @@
+-- `log::record::Copy::number` meets its contract: the code is the definition, and bytes are small. Assumes nothing.
+use borrow.Author.Needs.{needs}
+use Rattle.log.specs.Record.{copy-number}
+use Rattle.log.proofs.record.Copy.number.Statement.{statement}
+use Rattle.log.proofs.record.Copy.number.Tie as tie
+
+cast-result : tie.Need-cast-result
+cast-result c = search needs
+
+mul-result : tie.Need-mul-result
+mul-result c = search needs
+
+cast-result-2 : tie.Need-cast-result-2
+cast-result-2 c = search needs
+
+add-result : tie.Need-add-result
+add-result c = search needs
+
+returns : tie.Need-returns
+unfolding copy-number
+returns c = search needs
+
+pub number-spec : {M : Type 1} → statement M
+number-spec = tie.close (tie.spec cast-result mul-result cast-result-2 add-result returns)

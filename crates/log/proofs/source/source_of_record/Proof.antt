@@ -1,0 +1,107 @@
+-- `log::source::source_of_record` meets its contract: the check's refusal is passed on, then 10 is tried, and then the source record
+-- that the walk back finds is earlier than k, and so there. Assumes nothing.
+use borrow.Author.Needs.{needs}
+use native.Mathlib.Omega.{arith}
+use mathlib.Core.Path.{_≡_, _∙_, sym, ap}
+use mathlib.Core.List.{List}
+use mathlib.Core.Option.{Option, some, none}
+use Prim.Native.Nat.{ℕ, _<_, _≤_}
+use denote.Ref.{now}
+use Rattle.log.specs.Answer.{Answer, gives, passed}
+use Rattle.log.specs.Record.{records, transaction}
+use Rattle.log.specs.Refusal.{check-answer}
+use Rattle.log.specs.Source.{source, its-transaction, source-answer}
+use Rattle.log.specs.Numbers.{checked-says, found-says}
+use Rattle.log.proofs.Sources.{sourced, asked-refused, asked-past, asked}
+use Rattle.log.proofs.source.source_of_record.Statement.{statement}
+use Rattle.log.proofs.source.source_of_record.Tie as tie
+use Rattle.log.proofs.source.source_of_record.Reads as reads
+use Rattle.log.proofs.source.source_of_record.Lts as lts
+use Rattle.log.proofs.check.check.Reads as check-reads
+use Rattle.log.proofs.record.record_at.Reads as record-at-reads
+use Rattle.log.proofs.source.source_record.Reads as source-record-reads
+
+-- where the log has passed
+module _ (c : tie.After-enum-told) where
+  abbrev log : List ℕ
+  log = now (c .before .before .before .before .args .log)
+
+  abbrev k : ℕ
+  k = c .before .before .before .before .args .k
+
+  sound : check-answer log ≡ passed
+  sound = sym (c .before .before .check .ensures) ∙ ap checked-says (c .enum-told .given .1)
+
+-- where record k is there
+there : (c : tie.Else1) → k (c .before) < records (log (c .before))
+unfolding records
+there c = c .if1 .left
+
+-- where the walk back has ended
+module _ (c : tie.After-source-record) where
+  answered : (o : Option ℕ) → found-says (c .source-record .result) ≡ o
+      → gives (its-transaction (log (c .before .before)) o) ≡ source-answer (log (c .before .before)) (k (c .before .before))
+  unfolding source
+  answered o e =
+      let f = c .before .before in
+      ap (λ (x : Option ℕ). gives (its-transaction (log f) x)) (sym e ∙ c .source-record .ensures) ∙ sym (asked (log f) (k f) (sound f) (there (c .before)))
+
+check-requires : tie.Need-check-requires
+check-requires c κs = search needs
+
+enum-known-why : tie.Need-enum-known-why
+enum-known-why c = search needs
+
+enum-told : tie.Need-enum-told
+enum-told c = search needs
+
+returns : tie.Need-returns
+unfolding records
+returns c = let e = c .before in sym (asked-past (log e) (k e) (sound e) (c .if1 .taken))
+
+source-record-requires : tie.Need-source-record-requires
+source-record-requires c κs = there c
+
+enum-known-e : tie.Need-enum-known-e
+enum-known-e c = search needs
+
+record-at-requires : tie.Need-record-at-requires
+record-at-requires c κs =
+    let w = c .before .before .before in
+    let f = w .before .before in
+    let s = sourced (log f) (k f) (c .before .e .given .0 .0) (sym (w .source-record .ensures) ∙ ap found-says (c .before .e .given .1)) in
+    omega (arith, s .earlier, there (w .before))
+
+enum-told-2 : tie.Need-enum-told-2
+enum-told-2 c = search needs
+
+returns-2 : tie.Need-returns-2
+returns-2 c =
+    let a = c .before .before .before in
+    let s = a .before .before in
+    sym (asked-refused (now (s .args .log)) (s .args .k) (sym (a .check .ensures) ∙ ap checked-says (c .before .why .given .1)))
+
+returns-3 : tie.Need-returns-3
+returns-3 c =
+    let e = c .before .before in
+    let w = e .before .before in
+    ap (λ (t : ℕ). gives (some t)) (c .record-at .ensures .1) ∙ answered w (some (e .e .given .0 .0)) (ap found-says (e .e .given .1))
+
+returns-4 : tie.Need-returns-4
+returns-4 c = answered (c .before .before) none (ap found-says (c .enum-told2 .given .1))
+
+pub source-of-record-spec : {M : Type 1} → statement M
+source-of-record-spec =
+    tie.close
+    (tie.spec
+    check-requires
+    enum-known-why
+    enum-told
+    returns
+    source-record-requires
+    enum-known-e
+    record-at-requires
+    enum-told-2
+    returns-2
+    returns-3
+    returns-4)

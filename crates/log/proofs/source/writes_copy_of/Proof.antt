@@ -1,0 +1,42 @@
+-- `log::source::writes_copy_of` meets its contract: only a write writes a copy, and it writes the one that it names.
+-- Assumes nothing.
+use borrow.Author.Needs.{needs}
+use mathlib.Core.Path.{_≡_, _∙_, sym, ap₂}
+use lib.Dec.{eqb}
+use denote.Ref.{now}
+use Rattle.log.specs.Record.{copy-of}
+use Rattle.log.proofs.KindBytes.{a-write, no-write}
+use Rattle.log.proofs.Steps.{copy-writes, copy-silent}
+use Rattle.log.proofs.source.writes_copy_of.Statement.{statement}
+use Rattle.log.proofs.source.writes_copy_of.Tie as tie
+use Rattle.log.proofs.source.writes_copy_of.Reads as reads
+use Rattle.log.proofs.source.writes_copy_of.Lts as lts
+use Rattle.log.proofs.record.copy_at.Reads as copy-at-reads
+use Rattle.log.proofs.record.kind_at.Reads as kind-at-reads
+
+kind-at-requires : tie.Need-kind-at-requires
+kind-at-requires c κs = search needs
+
+returns : tie.Need-returns
+returns c =
+    let s = c .before .before .before in
+    let log = now (s .args .log) in
+    sym (copy-silent log (s .args .e) (no-write log (s .args .e) (λ q. c .if1 .taken (c .before .kind-at .ensures ∙ q))) (copy-of log (s .args .k)))
+
+copy-at-requires : tie.Need-copy-at-requires
+copy-at-requires c κs = search needs
+
+copy-at-requires-2 : tie.Need-copy-at-requires-2
+copy-at-requires-2 c κs = search needs
+
+returns-2 : tie.Need-returns-2
+returns-2 c =
+    let at-kind = c .before .before .before in
+    let s = at-kind .before .before in
+    let log = now (s .args .log) in
+    let writes = a-write log (s .args .e) (sym (at-kind .kind-at .ensures) ∙ c .before .before .if1 .left) in
+    ap₂ eqb (c .before .copy-at .ensures) (c .copy-at2 .ensures) ∙ sym (copy-writes log (s .args .e) writes (copy-of log (s .args .k)))
+
+pub writes-copy-of-spec : {M : Type 1} → statement M
+writes-copy-of-spec =
+    tie.close (tie.spec kind-at-requires returns copy-at-requires copy-at-requires-2 returns-2)

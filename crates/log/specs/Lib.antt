@@ -1,0 +1,6 @@
+pub mod Record
+pub mod Answer
+pub mod Refusal
+pub mod Source
+pub mod Numbers
+pub mod Kept

@@ -1,0 +1,25 @@
+-- Searches among the numbers below n, by a test that says yes or no of each number. All definitions of "some", "first" and
+-- "last" in the crates above are one of these three.
+use Prim.Native.Nat.{ℕ, zero, suc}
+use mathlib.Core.Bool.{Bool, true, false, _||_, cond}
+use mathlib.Core.Option.{Option, none, some}
+
+-- some number below n passes the test
+unfoldable pub some-below : ℕ → (ℕ → Bool) → Bool
+some-below zero p = false
+some-below (suc n) p = some-below n p || p n
+
+-- the last number below n that passes the test, if there is one
+unfoldable pub last-below : ℕ → (ℕ → Bool) → Option ℕ
+last-below zero p = none
+last-below (suc n) p = cond (p n) (some n) (last-below n p)
+
+-- what was found, or else a second choice
+abbrev pub or-else : Option ℕ → Option ℕ → Option ℕ
+or-else (some k) o = some k
+or-else none o = o
+
+-- the first number below n that passes the test, if there is one
+unfoldable pub first-below : ℕ → (ℕ → Bool) → Option ℕ
+first-below zero p = none
+first-below (suc n) p = or-else (first-below n p) (cond (p n) (some n) none)
