@@ -8,3 +8,5 @@ pub mod Ends
 pub mod Records
 pub mod Lengths
 pub mod Sources
+pub mod Determined
+pub mod Passed

@@ -8,9 +8,8 @@ use lib.Dec.{eqb, ltb}
 use borrow.Author.Tests.{ltb-true, eqb-true, not-false}
 use Rattle.sets.proofs.Truth.{and-left, and-right}
 use Rattle.log.specs.Answer.{Answer, passed, row, _then_}
-use Rattle.log.specs.Record.{transactions, items, sites, kind, transaction, item, site, records, commit-kind}
+use Rattle.log.specs.Record.{InRange, transactions, items, sites, kind, transaction, item, site, records, commit-kind}
 use Rattle.log.specs.Refusal.{known-kind, in-range, form-answer, history-answer, record-answer}
-use Rattle.log.specs.Kept.{InRange}
 use Rattle.log.proofs.Answers.{then-left, then-right, row-fails}
 
 -- a commit's item and site are 0, so they are in range too

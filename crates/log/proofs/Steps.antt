@@ -17,8 +17,8 @@ use Rattle.sets.specs.Bits.{has}
 use Rattle.sets.proofs.Truth.{either, clash, and-always, and-nothing, or-nothing, or-inl, or-inr}
 use Rattle.sets.proofs.Searches.{some-more, some-zero, none-some, first-hit, first-stays}
 use Rattle.sets.proofs.Members.{stored, has-zero}
-use Rattle.log.specs.Record.{transactions, items, sites, transaction, item, site, copy-number, copy-of, is-by, is-write, is-commit, writes-copy, writes-item, named, committed}
-use Rattle.log.specs.Kept.{InRange, Writers, Ended, Firsts}
+use Rattle.log.specs.Record.{InRange, transactions, items, sites, transaction, item, site, copy-number, copy-of, is-by, is-write, is-commit, writes-copy, writes-item, named, committed}
+use Rattle.log.specs.Kept.{Writers, Ended, Firsts}
 
 -- the copy of a record in range has its place in the table
 pub copy-low : (log : List ℕ) (k : ℕ) → InRange log k → copy-of log k < items * sites

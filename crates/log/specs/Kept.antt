@@ -1,5 +1,5 @@
 -- What the check keeps of the records before k. Only the contracts of its own steps cite this file.
-use Prim.Native.Nat.{ℕ, _*_, _<_}
+use Prim.Native.Nat.{ℕ, _*_}
 use mathlib.Core.Path.{_≡_}
 use mathlib.Core.List.{List}
 use mathlib.Core.Bool.{Bool, true, _&&_}
@@ -7,14 +7,7 @@ use mathlib.Core.Option.{some}
 use lib.ListN.{length, getD}
 use Rattle.sets.specs.Search.{some-below, first-below}
 use Rattle.sets.specs.Bits.{has}
-use Rattle.log.specs.Record.{transactions, items, sites, transaction, item, site, records, is-by, writes-copy, writes-item, named, committed}
-
--- record k is there, and its numbers are in their ranges
-pub record InRange (log : List ℕ) (k : ℕ) : Type 0 where
-  pub there : k < records log
-  pub transaction-low : transaction log k < transactions
-  pub item-low : item log k < items
-  pub site-low : site log k < sites
+use Rattle.log.specs.Record.{transactions, items, sites, is-by, writes-copy, writes-item, named, committed}
 
 -- a table that has, for each copy or each item c, the set of the transactions with a record before k that writes c
 pub record Writers (log : List ℕ) (writes : ℕ → ℕ → Bool) (wide k : ℕ) (table : List ℕ) : Type 0 where

@@ -3,7 +3,7 @@ use Prim.Native.Nat.{ℕ}
 use mathlib.Core.Option.{Option, none, some}
 use Rattle.log.specs.Answer.{Answer, gives, refused, passed}
 use Rattle.log.specs.declared.refusal.Refusal.{Refusal}
-use Rattle.log.specs.declared.refusal.Refusal.the-variants.{TooLong, Ragged, ShortBuffer, BadKind, OutOfRange, AfterCommit, ReadsUnwritten, ReadsPastOwn, NeverCommits, NoSuchRecord}
+use Rattle.log.specs.declared.refusal.Refusal.the-variants.{TooLong, Ragged, ShortBuffer, BadKind, OutOfRange, AfterCommit, ReadsUnwritten, ReadsPastOwn, NeverCommits, BadQuestion}
 use Rattle.log.specs.declared.refusal.Checked.{Checked}
 use Rattle.log.specs.declared.refusal.Checked.the-variants.{Passed, Refused}
 use Rattle.log.specs.declared.source.Found.{Found}
@@ -21,7 +21,7 @@ number-of (AfterCommit k) = 6
 number-of (ReadsUnwritten k) = 7
 number-of (ReadsPastOwn k) = 8
 number-of (NeverCommits k) = 9
-number-of NoSuchRecord = 10
+number-of BadQuestion = 10
 
 abbrev pub place-of : Refusal → ℕ
 place-of TooLong = 0
@@ -33,7 +33,7 @@ place-of (AfterCommit k) = k
 place-of (ReadsUnwritten k) = k
 place-of (ReadsPastOwn k) = k
 place-of (NeverCommits k) = k
-place-of NoSuchRecord = 0
+place-of BadQuestion = 0
 
 -- what the answer of a check says
 abbrev pub checked-says : Checked → Answer (Unit {0})

@@ -1,6 +1,6 @@
 -- The log of document 01: its records, what each of them names, and which of them stand on one copy.
 -- A log is the list of its bytes. A record is known by its place, counted from 0.
-use Prim.Native.Nat.{ℕ, _+_, _*_, _/_}
+use Prim.Native.Nat.{ℕ, _+_, _*_, _/_, _<_}
 use mathlib.Core.List.{List}
 use mathlib.Core.Bool.{Bool, _&&_}
 use lib.ListN.{length, getD}
@@ -44,6 +44,13 @@ site log k = getD log (k * record-bytes + 3) 0
 -- how many records the log has
 unfoldable pub records : List ℕ → ℕ
 records log = length log / record-bytes
+
+-- record k is there, and its numbers are below the limits of all kinds
+pub record InRange (log : List ℕ) (k : ℕ) : Type 0 where
+  pub there : k < records log
+  pub transaction-low : transaction log k < transactions
+  pub item-low : item log k < items
+  pub site-low : site log k < sites
 
 -- "Kinds: 1 read, 2 write, 3 commit"
 unfoldable pub read-kind : ℕ → Bool

@@ -3,10 +3,10 @@
 ghost use mathlib.Core.Path.{_≡_};
 ghost use mathlib.Core.Bool.{true};
 ghost use Prim.Native.Nat.{_+_};
-ghost use Rattle.log.specs.Record.{is-read};
+ghost use Rattle.log.specs.Record.{InRange, is-read};
 ghost use Rattle.log.specs.Refusal.{read-answer, history-answer};
 ghost use Rattle.log.specs.Numbers.{checked-says};
-ghost use Rattle.log.specs.Kept.{CopyWriters, ItemWriters, Ended, Firsts, InRange};
+ghost use Rattle.log.specs.Kept.{CopyWriters, ItemWriters, Ended, Firsts};
 use crate::record::COMMIT;
 use crate::record::Copy;
 use crate::record::READ;

@@ -1,8 +1,7 @@
 // What a log is made of: records of four bytes, and the copies that they name.
 ghost use mathlib.Core.Path.{_≡_};
 ghost use Prim.Native.Nat.{_<_};
-ghost use Rattle.log.specs.Record.{transactions, items, kind, transaction, item, site, records, copy-number, copy-of};
-ghost use Rattle.log.specs.Kept.{InRange};
+ghost use Rattle.log.specs.Record.{InRange, transactions, items, kind, transaction, item, site, records, copy-number, copy-of};
 
 pub const RECORD_BYTES: usize = 4;
 

@@ -65,7 +65,7 @@ pub fn source_of_record(log: &[u8], k: usize) -> Source
         Checked::Refused(why) => Source::Refused(why),
         Checked::Passed => {
             if log.len() / RECORD_BYTES <= k {
-                return Source::Refused(Refusal::NoSuchRecord);
+                return Source::Refused(Refusal::BadQuestion);
             }
             match source_record(log, k) {
                 Found::At(e) => Source::Of(record_at(log, e).transaction),

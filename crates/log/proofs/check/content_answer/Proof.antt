@@ -7,10 +7,10 @@ use mathlib.Core.List.{List}
 use Prim.Native.Nat.{ℕ, _<_, _≤_, _-_, _*_}
 use denote.Ref.{now}
 use Rattle.log.specs.Answer.{passed}
-use Rattle.log.specs.Record.{items, sites, records, writes-copy, writes-item}
+use Rattle.log.specs.Record.{InRange, items, sites, records, writes-copy, writes-item}
 use Rattle.log.specs.Refusal.{record-answer, records-answer}
 use Rattle.log.specs.Numbers.{checked-says}
-use Rattle.log.specs.Kept.{CopyWriters, ItemWriters, Ended, Firsts, InRange}
+use Rattle.log.specs.Kept.{CopyWriters, ItemWriters, Ended, Firsts}
 use Rattle.log.proofs.Steps.{writers-start, ended-start, firsts-start}
 use Rattle.log.proofs.Passing.{in-range-passed}
 use Rattle.log.proofs.Records.{no-records, one-more, content-refused, content-ends}

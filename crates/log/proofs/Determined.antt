@@ -1,0 +1,92 @@
+-- The promises determine the answers: a refusal is known by its number and place, so two answers that say the same are the same.
+-- Assumes nothing.
+use Prim.Native.Nat.{ℕ, suc, _-_}
+use native.Mathlib.Omega.{arith}
+use mathlib.Core.Path.{_≡_, refl, sym, _∙_, ap, ap₂}
+use mathlib.Core.List.{List, [], _∷_}
+use lib.ListN.{getD}
+use mathlib.Core.Option.{Option, none, some}
+use Rattle.log.specs.Answer.{Answer, gives, refused}
+use Rattle.log.specs.Refusal.{check-answer}
+use Rattle.log.specs.Source.{source-answer}
+use Rattle.log.specs.Numbers.{number-of, place-of, checked-says, source-says}
+use Rattle.log.specs.declared.refusal.Refusal.{Refusal}
+use Rattle.log.specs.declared.refusal.Refusal.the-variants.{TooLong, Ragged, ShortBuffer, BadKind, OutOfRange, AfterCommit, ReadsUnwritten, ReadsPastOwn, NeverCommits, BadQuestion}
+use Rattle.log.specs.declared.refusal.Checked.{Checked}
+use Rattle.log.specs.declared.refusal.Checked.the-variants.{Passed, Refused}
+use Rattle.log.specs.declared.source.Source.{Source}
+use Rattle.log.specs.declared.source.Source.the-variants.{Of, Nothing, Refused as SourceRefused}
+
+-- the refusal of a number and a place: the cases stand in the order of their numbers
+abbrev refusal-of : ℕ → ℕ → Refusal
+refusal-of n k =
+    getD
+    (TooLong ∷ Ragged ∷ ShortBuffer ∷ BadKind k ∷ OutOfRange k ∷ AfterCommit k ∷ ReadsUnwritten k ∷ ReadsPastOwn k ∷ NeverCommits k ∷ [])
+    (n - 1) BadQuestion
+
+known : (r : Refusal) → refusal-of (number-of r) (place-of r) ≡ r
+known TooLong = refl
+known Ragged = refl
+known ShortBuffer = refl
+known (BadKind k) = refl
+known (OutOfRange k) = refl
+known (AfterCommit k) = refl
+known (ReadsUnwritten k) = refl
+known (ReadsPastOwn k) = refl
+known (NeverCommits k) = refl
+known BadQuestion = refl
+
+pub same-refusal : (r s : Refusal) → number-of r ≡ number-of s → place-of r ≡ place-of s → r ≡ s
+same-refusal r s n p = sym (known r) ∙ ap₂ refusal-of n p ∙ known s
+
+-- what a refusal's answer holds
+abbrev said-number : {A : Type 0} → Answer A → ℕ
+said-number (gives a) = 0
+said-number (refused n p) = n
+
+abbrev said-place : {A : Type 0} → Answer A → ℕ
+said-place (gives a) = 0
+said-place (refused n p) = p
+
+no-zero : (r : Refusal) → number-of r ≡ 0 → ⊥
+no-zero TooLong e = omega arith
+no-zero Ragged e = omega arith
+no-zero ShortBuffer e = omega arith
+no-zero (BadKind k) e = omega arith
+no-zero (OutOfRange k) e = omega arith
+no-zero (AfterCommit k) e = omega arith
+no-zero (ReadsUnwritten k) e = omega arith
+no-zero (ReadsPastOwn k) e = omega arith
+no-zero (NeverCommits k) e = omega arith
+no-zero BadQuestion e = omega arith
+
+same-checked : (a b : Checked) → checked-says a ≡ checked-says b → a ≡ b
+same-checked Passed Passed e = refl
+same-checked Passed (Refused s) e = absurd (no-zero s (sym (ap said-number e)))
+same-checked (Refused r) Passed e = absurd (no-zero r (ap said-number e))
+same-checked (Refused r) (Refused s) e = ap Refused (same-refusal r s (ap said-number e) (ap said-place e))
+
+-- what a source's answer holds: its transaction and one, or 0 for none
+abbrev said-source : Answer (Option ℕ) → ℕ
+said-source (gives (some t)) = suc t
+said-source (gives none) = 0
+said-source (refused n p) = 0
+
+same-source : (a b : Source) → source-says a ≡ source-says b → a ≡ b
+same-source (Of t) (Of u) e = let q : suc t ≡ suc u = ap said-source e in ap Of (omega arith)
+same-source (Of t) Nothing e = let q : suc t ≡ 0 = ap said-source e in absurd (omega arith)
+same-source (Of t) (SourceRefused s) e = absurd (no-zero s (sym (ap said-number e)))
+same-source Nothing (Of u) e = let q : 0 ≡ suc u = ap said-source e in absurd (omega arith)
+same-source Nothing Nothing e = refl
+same-source Nothing (SourceRefused s) e = absurd (no-zero s (sym (ap said-number e)))
+same-source (SourceRefused r) (Of u) e = absurd (no-zero r (ap said-number e))
+same-source (SourceRefused r) Nothing e = absurd (no-zero r (ap said-number e))
+same-source (SourceRefused r) (SourceRefused s) e = ap SourceRefused (same-refusal r s (ap said-number e) (ap said-place e))
+
+-- THEOREM: any two answers that `check` promises for a log are equal
+pub check-determined : (log : List ℕ) (a b : Checked) → checked-says a ≡ check-answer log → checked-says b ≡ check-answer log → a ≡ b
+check-determined log a b p q = same-checked a b (p ∙ sym q)
+
+-- THEOREM: any two answers that `source_of_record` promises for a log and a number are equal
+pub source-determined : (log : List ℕ) (k : ℕ) (a b : Source) → source-says a ≡ source-answer log k → source-says b ≡ source-answer log k → a ≡ b
+source-determined log k a b p q = same-source a b (p ∙ sym q)

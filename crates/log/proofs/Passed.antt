@@ -1,0 +1,247 @@
+-- What a log has that passes the checks: the laws that the crates above go by, so that none of them opens a definition of this
+-- one. Each is what one number's absence says. Assumes nothing.
+use Prim.Native.Nat.{ℕ, zero, suc, _*_, _%_, _≤_, _<_}
+use native.Mathlib.Omega.{arith}
+use native.Mathlib.Decide.{decLt}
+use mathlib.Core.Path.{_≡_, refl}
+use mathlib.Core.List.{List}
+use mathlib.Core.Bool.{Bool, true, false, not, _&&_, _||_, cond}
+use mathlib.Core.Option.{Option, none, some}
+use mathlib.Core.Logic.{_⊎_, inl, inr, ⊎-elim, _↔_}
+use lib.ListN.{length}
+use lib.Dec.{eqb, ltb}
+use borrow.Author.Tests.{ltb-false, eqb-true, eq-eqb, not-false}
+use Rattle.sets.specs.Search.{first-below, last-below}
+use Rattle.sets.proofs.Truth.{clash, and-true, and-left, and-right, or-cases}
+use Rattle.sets.proofs.Searches.{some-found, some-hit, some-none, first-none-below, Last, last-none, last-view}
+use Rattle.log.specs.Answer.{Answer, passed, row, _then_}
+use Rattle.log.specs.Record.{InRange, record-bytes, transactions, items, sites, most-records, most-bytes, kind, transaction, item, site, records, read-kind, write-kind, commit-kind, is-read, is-write, is-commit, copy-of, is-by, named, committed, wrote-copy, wrote-item, written, in-log}
+use Rattle.log.specs.Refusal.{too-long, ragged, known-kind, in-range, form-answer, after-commit, reads-unwritten, reads-past-own, read-answer, history-answer, record-answer, records-answer, never-commits, first-record, refused-9, end-answer, length-answer, content-answer, check-answer}
+use Rattle.log.specs.Source.{source-record}
+use Rattle.log.proofs.Answers.{never-both, then-left, then-right, row-fails}
+use Rattle.log.proofs.Passing.{form-known, form-in-range, in-range-record}
+use Rattle.log.proofs.Records.{each-passes}
+use Rattle.log.proofs.Ends.{all-commit}
+use Rattle.log.proofs.Sources.{Sourced, sourced, writes-it}
+
+module _ (log : List ℕ) where
+  -- no number of the table applies to the log
+  pub record NothingApplies : Type 0 where
+    pub no-1 : too-long log ≡ false
+    pub no-2 : ragged log ≡ false
+    pub no-4 : (k : ℕ) → k < records log → known-kind (kind log k) ≡ true
+    pub no-5 : (k : ℕ) → k < records log → in-range (kind log k) (transaction log k) (item log k) (site log k) ≡ true
+    pub no-6 : (k : ℕ) → k < records log → after-commit log k ≡ false
+    pub no-7 : (k : ℕ) → k < records log → reads-unwritten log k ≡ false
+    pub no-8 : (k : ℕ) → k < records log → reads-past-own log k ≡ false
+    pub no-9 : (t : ℕ) → t < transactions → never-commits log t ≡ false
+
+  -- the parts of a record's answer
+  abbrev form : ℕ → Answer (Unit {0})
+  form k = form-answer k (kind log k) (transaction log k) (item log k) (site log k)
+
+  form-passes : (k : ℕ) → record-answer log k ≡ passed → form k ≡ passed
+  unfolding record-answer
+  form-passes k h = then-left (form k) (history-answer log k) h
+
+  history-passes : (k : ℕ) → record-answer log k ≡ passed → history-answer log k ≡ passed
+  unfolding record-answer
+  history-passes k h = then-right (form k) (history-answer log k) h
+
+  not-6 : (k : ℕ) → history-answer log k ≡ passed → after-commit log k ≡ false
+  unfolding history-answer
+  not-6 k h = row-fails 6 (after-commit log k) k (then-left (row 6 (after-commit log k) k) (read-answer log k) h)
+
+  read-passes : (k : ℕ) → history-answer log k ≡ passed → read-answer log k ≡ passed
+  unfolding history-answer
+  read-passes k h = then-right (row 6 (after-commit log k) k) (read-answer log k) h
+
+  not-7 : (k : ℕ) → read-answer log k ≡ passed → reads-unwritten log k ≡ false
+  unfolding read-answer
+  not-7 k h = row-fails 7 (reads-unwritten log k) k (then-left (row 7 (reads-unwritten log k) k) (row 8 (reads-past-own log k) k) h)
+
+  not-8 : (k : ℕ) → read-answer log k ≡ passed → reads-past-own log k ≡ false
+  unfolding read-answer
+  not-8 k h = row-fails 8 (reads-past-own log k) k (then-right (row 7 (reads-unwritten log k) k) (row 8 (reads-past-own log k) k) h)
+
+  not-9 : end-answer log ≡ passed → (t : ℕ) → t < transactions → never-commits log t ≡ false
+  unfolding end-answer
+  not-9 h t l = go (first-below transactions (never-commits log)) refl h
+    where
+      go : (o : Option ℕ) → first-below transactions (never-commits log) ≡ o → refused-9 log o ≡ passed → never-commits log t ≡ false
+      go none e q = first-none-below (never-commits log) transactions e t l
+      go (some u) e q = absurd (never-both tt 9 (first-record log u) q)
+
+  lengths-pass : check-answer log ≡ passed → length-answer log ≡ passed
+  unfolding check-answer
+  lengths-pass h = then-left (length-answer log) (content-answer log) h
+
+  content-passes : check-answer log ≡ passed → content-answer log ≡ passed
+  unfolding check-answer
+  content-passes h = then-right (length-answer log) (content-answer log) h
+
+  records-pass : check-answer log ≡ passed → records-answer log (records log) ≡ passed
+  unfolding content-answer
+  records-pass h = then-left (records-answer log (records log)) (end-answer log) (content-passes h)
+
+  end-passes : check-answer log ≡ passed → end-answer log ≡ passed
+  unfolding content-answer
+  end-passes h = then-right (records-answer log (records log)) (end-answer log) (content-passes h)
+
+  not-1 : length-answer log ≡ passed → too-long log ≡ false
+  unfolding length-answer
+  not-1 h = row-fails 1 (too-long log) 0 (then-left (row 1 (too-long log) 0) (row 2 (ragged log) 0) h)
+
+  not-2 : length-answer log ≡ passed → ragged log ≡ false
+  unfolding length-answer
+  not-2 h = row-fails 2 (ragged log) 0 (then-right (row 1 (too-long log) 0) (row 2 (ragged log) 0) h)
+
+  -- and back
+  record-back : NothingApplies → (k : ℕ) → k < records log → record-answer log k ≡ passed
+  unfolding record-answer form-answer history-answer read-answer
+  record-back w k l = rw (w .no-4 k l, w .no-5 k l, w .no-6 k l, w .no-7 k l, w .no-8 k l) refl
+
+  records-back : NothingApplies → (n : ℕ) → n ≤ records log → records-answer log n ≡ passed
+  unfolding records-answer
+  records-back w zero l = refl
+  records-back w (suc n) l = rw (records-back w n (omega arith), record-back w n l) refl
+
+  check-back : NothingApplies → check-answer log ≡ passed
+  unfolding check-answer length-answer content-answer
+  check-back w = rw (w .no-1, w .no-2, records-back w (records log) (omega arith), all-commit log (w .no-9)) refl
+
+  pub nothing-applies : check-answer log ≡ passed → NothingApplies
+  nothing-applies h =
+      record {
+        no-1 = not-1 (lengths-pass h);
+        no-2 = not-2 (lengths-pass h);
+        no-4 = λ k l. form-known k (kind log k) (transaction log k) (item log k) (site log k) (form-passes k (each k l));
+        no-5 = λ k l. form-in-range k (kind log k) (transaction log k) (item log k) (site log k) (form-passes k (each k l));
+        no-6 = λ k l. not-6 k (history-passes k (each k l));
+        no-7 = λ k l. not-7 k (read-passes k (history-passes k (each k l)));
+        no-8 = λ k l. not-8 k (read-passes k (history-passes k (each k l)));
+        no-9 = not-9 (end-passes h);
+      }
+    where
+      each : (k : ℕ) → k < records log → record-answer log k ≡ passed
+      each k l = each-passes log (records log) k l (records-pass h)
+
+  -- THEOREM: a log passes exactly where no number applies
+  pub passes-exactly : check-answer log ≡ passed ↔ NothingApplies
+  passes-exactly = (nothing-applies, check-back)
+
+-- what the records before k have, as facts of single records
+module _ (log : List ℕ) where
+  pub by-own : (k : ℕ) → is-by log k (transaction log k) ≡ true
+  unfolding is-by
+  by-own k = eq-eqb (transaction log k) (transaction log k) refl
+
+  pub by-same : (k t : ℕ) → is-by log k t ≡ true → transaction log k ≡ t
+  unfolding is-by
+  by-same k t h = eqb-true (transaction log k) t h
+
+  pub in-log-found : (t : ℕ) → in-log log t ≡ true → (k : ℕ) × (k < records log) × (is-by log k t ≡ true)
+  unfolding in-log named
+  in-log-found t h = some-found (λ k. is-by log k t) (records log) h
+
+  pub in-log-hit : (t k : ℕ) → k < records log → is-by log k t ≡ true → in-log log t ≡ true
+  unfolding in-log named
+  in-log-hit t k l h = some-hit (λ e. is-by log e t) (records log) k l h
+
+  committed-found : (t n : ℕ) → committed log t n ≡ true → (c : ℕ) × (c < n) × ((is-by log c t && is-commit log c) ≡ true)
+  unfolding committed
+  committed-found t n h = some-found (λ e. is-by log e t && is-commit log e) n h
+
+  committed-hit : (t c k : ℕ) → c < k → is-by log c t ≡ true → is-commit log c ≡ true → committed log t k ≡ true
+  unfolding committed
+  committed-hit t c k l b h = some-hit (λ e. is-by log e t && is-commit log e) k c l (and-true (is-by log c t) (is-commit log c) b h)
+
+-- record c is the commit of transaction t, after all its other records
+pub record CommitOf (log : List ℕ) (t c : ℕ) : Type 0 where
+  pub there : c < records log
+  pub its-own : is-by log c t ≡ true
+  pub commits : is-commit log c ≡ true
+  pub last : (k : ℕ) → k < records log → is-by log k t ≡ true → k ≤ c
+
+module _ (log : List ℕ) (h : check-answer log ≡ passed) where
+  -- the lengths
+  pub passed-length : length log ≡ records log * record-bytes
+  unfolding ragged records
+  passed-length =
+      let e = eqb-true (length log % record-bytes) 0 (not-false (eqb (length log % record-bytes) 0) (nothing-applies log h .no-2)) in omega arith
+
+  pub passed-few : records log ≤ most-records
+  unfolding too-long records
+  passed-few = let e = ltb-false most-bytes (length log) (nothing-applies log h .no-1) in omega arith
+
+  -- every record is in range
+  pub passed-in-range : (k : ℕ) → k < records log → InRange log k
+  passed-in-range k l = in-range-record log k l (form-passes log k (each-passes log (records log) k l (records-pass log h)))
+
+  pub passed-kind : (k : ℕ) → k < records log → (is-read log k ≡ true) ⊎ ((is-write log k ≡ true) ⊎ (is-commit log k ≡ true))
+  unfolding known-kind is-read is-write is-commit
+  passed-kind k l =
+      let b = kind log k in
+      ⊎-elim
+      (λ (x : (read-kind b || write-kind b) ≡ true). ⊎-elim (λ (y : read-kind b ≡ true). inl y) (λ (y : write-kind b ≡ true). inr (inl y)) (or-cases (read-kind b) (write-kind b) x))
+      (λ (x : commit-kind b ≡ true). inr (inr x)) (or-cases (read-kind b || write-kind b) (commit-kind b) (nothing-applies log h .no-4 k l))
+
+  pub passed-commit-zero : (k : ℕ) → k < records log → is-commit log k ≡ true → (item log k ≡ 0) × (site log k ≡ 0)
+  unfolding in-range is-commit
+  passed-commit-zero k l c =
+      let b = kind log k in
+      let x = item log k in
+      let s = site log k in
+      let both = rw c at (and-left (cond (commit-kind b) (eqb x 0 && eqb s 0) (ltb x items && ltb s sites)) (ltb (transaction log k) transactions) (nothing-applies log h .no-5 k l)) in
+      (eqb-true x 0 (and-left (eqb x 0) (eqb s 0) both), eqb-true s 0 (and-right (eqb x 0) (eqb s 0) both))
+
+  pub passed-low : (t : ℕ) → in-log log t ≡ true → t < transactions
+  passed-low t i =
+      let w = in-log-found log t i in
+      let r = passed-in-range (w .0) (w .1) in
+      let e = by-same log (w .0) t (w .2) in
+      omega (arith, r .transaction-low)
+
+  -- no record of a transaction stands after its commit
+  after : (t c k : ℕ) → c < k → k < records log → is-by log c t ≡ true → is-commit log c ≡ true → is-by log k t ≡ true → ⊥
+  unfolding after-commit
+  after t c k l m b q d =
+      clash (committed log (transaction log k) k) (rw (by-same log k t d) (committed-hit log t c k l b q)) (nothing-applies log h .no-6 k m)
+
+  pub commit-of : (t c : ℕ) → c < records log → is-by log c t ≡ true → is-commit log c ≡ true → CommitOf log t c
+  commit-of t c l b q = record { there = l; its-own = b; commits = q; last = λ k m d. not-later k m d (decLt c k) }
+    where
+      not-later : (k : ℕ) → k < records log → is-by log k t ≡ true → Dec (c < k) → k ≤ c
+      not-later k m d (yes n) = absurd (after t c k n m b q d)
+      not-later k m d (no n) = omega arith
+
+  -- every transaction that is in the log commits, once, and after its other records
+  pub passed-commits : (t : ℕ) → in-log log t ≡ true → (c : ℕ) × CommitOf log t c
+  unfolding never-commits
+  passed-commits t i =
+      let some-commit = not-false (committed log t (records log)) (rw i at (nothing-applies log h .no-9 t (passed-low t i))) in
+      let w = committed-found log t (records log) some-commit in
+      (w .0, commit-of t (w .0) (w .1) (and-left (is-by log (w .0) t) (is-commit log (w .0)) (w .2)) (and-right (is-by log (w .0) t) (is-commit log (w .0)) (w .2)))
+
+  pub commit-once : (t c d : ℕ) → CommitOf log t c → CommitOf log t d → c ≡ d
+  commit-once t c d v w = let p = v .last d (w .there) (w .its-own) in let q = w .last c (v .there) (v .its-own) in omega arith
+
+  -- 7: a read has a source, which wrote the copy earlier with no write of the copy between
+  pub passed-written : (k : ℕ) → k < records log → is-read log k ≡ true → written log (copy-of log k) k ≡ true
+  unfolding reads-unwritten
+  passed-written k l r = not-false (written log (copy-of log k) k) (rw r at (nothing-applies log h .no-7 k l))
+
+  pub passed-source : (k : ℕ) → k < records log → is-read log k ≡ true → (e : ℕ) × (source-record log k ≡ some e) × Sourced log k e
+  unfolding source-record written
+  passed-source k l r = go (last-below k (writes-it log k)) (last-view (writes-it log k) k) refl
+    where
+      go : (o : Option ℕ) → Last (writes-it log k) k o → last-below k (writes-it log k) ≡ o
+          → (e : ℕ) × (source-record log k ≡ some e) × Sourced log k e
+      go none (last-none f) q = absurd (clash (written log (copy-of log k) k) (passed-written k l r) (some-none (writes-it log k) k f))
+      go (some e) v q = let s : source-record log k ≡ some e = rw r q in (e, s, sourced log k e s)
+
+  -- 8: a read of an item that its transaction wrote earlier is of a copy that it wrote earlier
+  pub passed-own : (k : ℕ) → k < records log → is-read log k ≡ true → wrote-item log (transaction log k) (item log k) k ≡ true
+      → wrote-copy log (transaction log k) (copy-of log k) k ≡ true
+  unfolding reads-past-own
+  passed-own k l r w = not-false (wrote-copy log (transaction log k) (copy-of log k) k) (rw (r, w) at (nothing-applies log h .no-8 k l))
