@@ -1,0 +1,25 @@
+-- How document 01's answers stand in the three numbers of the C face: the refusal's number and place; or number 0, and then the value.
+use Prim.Native.Nat.{ℕ}
+use mathlib.Core.Option.{Option, none, some}
+use Rattle.log.specs.Answer.{Answer as Said, gives, refused}
+use Rattle.log.specs.Numbers.{number-of, place-of}
+use Rattle.log.specs.Record.{transactions}
+use Rattle.log.specs.declared.refusal.Refusal.{Refusal}
+use Rattle.clib.specs.declared.Answer.{Answer}
+
+abbrev pub coded-refusal : ℕ → ℕ → Answer
+coded-refusal n p = record { number = n; place = p; value = 0 }
+
+-- an answer whose value is a number by the rule given
+abbrev pub coded : {A : Type 0} → (A → ℕ) → Said A → Answer
+coded value (gives a) = record { number = 0; place = 0; value = value a }
+coded value (refused n p) = coded-refusal n p
+
+-- a log that passes has the value 0
+abbrev pub passed-value : Unit {0} → ℕ
+passed-value u = 0
+
+-- a source has its transaction for a value, and "none" one past the highest
+abbrev pub source-value : Option ℕ → ℕ
+source-value (some t) = t
+source-value none = transactions

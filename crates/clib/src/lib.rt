@@ -1,0 +1,67 @@
+// The C face of the checker: exports on byte slices and plain numbers, thin over the crates below. include/fruscalenta.h declares them.
+ghost use mathlib.Core.Path.{_≡_};
+ghost use Rattle.log.specs.Refusal.{check-answer};
+ghost use Rattle.log.specs.Source.{source-answer};
+ghost use Rattle.log.specs.Numbers.{number-of, place-of};
+ghost use Rattle.clib.specs.Coded.{coded, coded-refusal, passed-value, source-value};
+use log::check::check;
+use log::refusal::Checked;
+use log::refusal::Refusal;
+use log::source::Source;
+use log::source::source_of_record;
+
+// An answer in numbers: the refusal's number and place, or number 0 and then the value.
+#[repr(C)]
+pub struct Answer {
+    pub number: u64,
+    pub place: u64,
+    pub value: u64,
+}
+
+// The value that stands for "none": one past the highest transaction.
+pub const NONE: u64 = 64;
+
+fn refused(r: Refusal) -> Answer
+    ensures { λ a. ⌜ a ≡ coded-refusal (number-of r) (place-of r) ⌝ }
+{
+    Answer {
+        number: r.number(),
+        place: r.place() as u64,
+        value: 0,
+    }
+}
+
+// The check of a log. The value is 0 where the log passes.
+#[no_mangle]
+pub extern "C" fn fruscalenta_check(log: &[u8]) -> Answer
+    ensures { λ a. ⌜ a ≡ coded passed-value (check-answer (now (log .entry))) ⌝ }
+{
+    match check(log) {
+        Checked::Passed => Answer {
+            number: 0,
+            place: 0,
+            value: 0,
+        },
+        Checked::Refused(r) => refused(r),
+    }
+}
+
+// The source of record k. The value is its transaction, or NONE for a write or a commit.
+#[no_mangle]
+pub extern "C" fn fruscalenta_source_of_record(log: &[u8], k: usize) -> Answer
+    ensures { λ a. ⌜ a ≡ coded source-value (source-answer (now (log .entry)) k) ⌝ }
+{
+    match source_of_record(log, k) {
+        Source::Of(t) => Answer {
+            number: 0,
+            place: 0,
+            value: t as u64,
+        },
+        Source::Nothing => Answer {
+            number: 0,
+            place: 0,
+            value: NONE,
+        },
+        Source::Refused(r) => refused(r),
+    }
+}

@@ -1,0 +1,28 @@
+/* The C face of the checker of replicated logs. Link libclib.a, which `rt staticlib clib` makes (x86-64 Linux).
+ *
+ * Nothing is asked of a caller but that log points at len readable bytes (or that len is 0 and log is not null). Every log of any
+ * length and content gets an answer. Nothing is allocated and nothing is kept between calls. */
+#ifndef FRUSCALENTA_H
+#define FRUSCALENTA_H
+
+#include <stddef.h>
+#include <stdint.h>
+
+/* An answer in numbers. Where number is 0 nothing was refused, and value is what was asked for. Else number and place are those
+ * of document 01's table of refusals, places counted in records from 0, and value is 0. */
+struct fruscalenta_answer {
+    uint64_t number;
+    uint64_t place;
+    uint64_t value;
+};
+
+/* The value that stands for "none": a write or a commit has no source. */
+#define FRUSCALENTA_NONE 64
+
+/* The check of a log: numbers 1, 2 and 4 to 9. The value is 0. */
+struct fruscalenta_answer fruscalenta_check(const uint8_t *log, size_t len);
+
+/* The source of record k: the transaction whose write it reads, or FRUSCALENTA_NONE. Numbers 1, 2, 4 to 9, then 10. */
+struct fruscalenta_answer fruscalenta_source_of_record(const uint8_t *log, size_t len, size_t k);
+
+#endif

@@ -1,0 +1,18 @@
+//! The second checker: document 01 once more, by the plainest methods, for
+//! comparing its answers log by log with those of another checker.
+
+pub mod check;
+pub mod damage;
+pub mod edges;
+pub mod generator;
+pub mod history;
+pub mod maker;
+pub mod named;
+pub mod notation;
+pub mod passing;
+pub mod record;
+pub mod ring;
+pub mod small;
+pub mod sort;
+pub mod source;
+pub mod verdict;
