@@ -1,12 +1,20 @@
 /* The C face of the checker of replicated logs. Link libclib.a, which `rt staticlib clib` makes (x86-64 Linux).
  *
- * Nothing is asked of a caller but that log points at len readable bytes (or that len is 0 and log is not null). Every log of any
- * length and content gets an answer. Nothing is allocated and nothing is kept between calls. */
+ * Nothing is asked of a caller but that log points at len readable bytes; it is never null, also where len is 0. Every log of any
+ * length and content gets an answer. Nothing is allocated, and nothing is kept between calls. */
 #ifndef FRUSCALENTA_H
 #define FRUSCALENTA_H
 
 #include <stddef.h>
 #include <stdint.h>
+
+#ifdef __cplusplus
+extern "C" {
+#ifdef __cplusplus
+}
+#endif
+
+#endif
 
 /* An answer in numbers. Where number is 0 nothing was refused, and value is what was asked for. Else number and place are those
  * of document 01's table of refusals, places counted in records from 0, and value is 0. */
@@ -24,5 +32,9 @@ struct fruscalenta_answer fruscalenta_check(const uint8_t *log, size_t len);
 
 /* The source of record k: the transaction whose write it reads, or FRUSCALENTA_NONE. Numbers 1, 2, 4 to 9, then 10. */
 struct fruscalenta_answer fruscalenta_source_of_record(const uint8_t *log, size_t len, size_t k);
+
+#ifdef __cplusplus
+}
+#endif
 
 #endif

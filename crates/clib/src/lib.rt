@@ -3,28 +3,29 @@ ghost use mathlib.Core.Path.{_≡_};
 ghost use Rattle.log.specs.Refusal.{check-answer};
 ghost use Rattle.log.specs.Source.{source-answer};
 ghost use Rattle.log.specs.Numbers.{number-of, place-of};
-ghost use Rattle.clib.specs.Coded.{coded, coded-refusal, passed-value, source-value};
+ghost use Rattle.clib.specs.Coding.{coded, coded-refusal, passed-value, source-value};
 use log::check::check;
+use log::record::TRANSACTIONS;
 use log::refusal::Checked;
 use log::refusal::Refusal;
 use log::source::Source;
 use log::source::source_of_record;
 
-// An answer in numbers: the refusal's number and place, or number 0 and then the value.
+// An answer in numbers: the refusal's number and place, or number 0 and then the value. `struct fruscalenta_answer` of the header.
 #[repr(C)]
-pub struct Answer {
+pub struct Coded {
     pub number: u64,
     pub place: u64,
     pub value: u64,
 }
 
 // The value that stands for "none": one past the highest transaction.
-pub const NONE: u64 = 64;
+pub const NONE: u64 = TRANSACTIONS as u64;
 
-fn refused(r: Refusal) -> Answer
+fn refused(r: Refusal) -> Coded
     ensures { λ a. ⌜ a ≡ coded-refusal (number-of r) (place-of r) ⌝ }
 {
-    Answer {
+    Coded {
         number: r.number(),
         place: r.place() as u64,
         value: 0,
@@ -33,11 +34,11 @@ fn refused(r: Refusal) -> Answer
 
 // The check of a log. The value is 0 where the log passes.
 #[no_mangle]
-pub extern "C" fn fruscalenta_check(log: &[u8]) -> Answer
+pub extern "C" fn fruscalenta_check(log: &[u8]) -> Coded
     ensures { λ a. ⌜ a ≡ coded passed-value (check-answer (now (log .entry))) ⌝ }
 {
     match check(log) {
-        Checked::Passed => Answer {
+        Checked::Passed => Coded {
             number: 0,
             place: 0,
             value: 0,
@@ -48,16 +49,16 @@ pub extern "C" fn fruscalenta_check(log: &[u8]) -> Answer
 
 // The source of record k. The value is its transaction, or NONE for a write or a commit.
 #[no_mangle]
-pub extern "C" fn fruscalenta_source_of_record(log: &[u8], k: usize) -> Answer
+pub extern "C" fn fruscalenta_source_of_record(log: &[u8], k: usize) -> Coded
     ensures { λ a. ⌜ a ≡ coded source-value (source-answer (now (log .entry)) k) ⌝ }
 {
     match source_of_record(log, k) {
-        Source::Of(t) => Answer {
+        Source::Of(t) => Coded {
             number: 0,
             place: 0,
             value: t as u64,
         },
-        Source::Nothing => Answer {
+        Source::Nothing => Coded {
             number: 0,
             place: 0,
             value: NONE,

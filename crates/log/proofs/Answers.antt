@@ -1,6 +1,6 @@
 -- Laws of answers in order: what it takes to pass, and which refusal is given. Assumes nothing.
 use Prim.Native.Nat.{ℕ}
-use mathlib.Core.Path.{_≡_, refl, sym, _∙_, ap}
+use mathlib.Core.Path.{_≡_, refl, ap}
 use mathlib.Core.Bool.{Bool, true, false, true≢false}
 use Rattle.log.specs.Answer.{Answer, gives, refused, passed, row, _then_}
 

@@ -8,14 +8,16 @@ use lib.ListN.{getD}
 use mathlib.Core.Option.{Option, none, some}
 use Rattle.log.specs.Answer.{Answer, gives, refused}
 use Rattle.log.specs.Refusal.{check-answer}
-use Rattle.log.specs.Source.{source-answer}
-use Rattle.log.specs.Numbers.{number-of, place-of, checked-says, source-says}
+use Rattle.log.specs.Source.{source-record, source-answer}
+use Rattle.log.specs.Numbers.{number-of, place-of, checked-says, source-says, found-says}
 use Rattle.log.specs.declared.refusal.Refusal.{Refusal}
 use Rattle.log.specs.declared.refusal.Refusal.the-variants.{TooLong, Ragged, ShortBuffer, BadKind, OutOfRange, AfterCommit, ReadsUnwritten, ReadsPastOwn, NeverCommits, BadQuestion}
 use Rattle.log.specs.declared.refusal.Checked.{Checked}
 use Rattle.log.specs.declared.refusal.Checked.the-variants.{Passed, Refused}
+use Rattle.log.specs.declared.source.Found.{Found}
+use Rattle.log.specs.declared.source.Found.the-variants.{At, None as NoneFound}
 use Rattle.log.specs.declared.source.Source.{Source}
-use Rattle.log.specs.declared.source.Source.the-variants.{Of, Nothing, Refused as SourceRefused}
+use Rattle.log.specs.declared.source.Source.the-variants.{Of, None, Refused as SourceRefused}
 
 -- the refusal of a number and a place: the cases stand in the order of their numbers
 abbrev refusal-of : ℕ → ℕ → Refusal
@@ -60,7 +62,7 @@ no-zero (ReadsPastOwn k) e = omega arith
 no-zero (NeverCommits k) e = omega arith
 no-zero BadQuestion e = omega arith
 
-same-checked : (a b : Checked) → checked-says a ≡ checked-says b → a ≡ b
+pub same-checked : (a b : Checked) → checked-says a ≡ checked-says b → a ≡ b
 same-checked Passed Passed e = refl
 same-checked Passed (Refused s) e = absurd (no-zero s (sym (ap said-number e)))
 same-checked (Refused r) Passed e = absurd (no-zero r (ap said-number e))
@@ -72,17 +74,24 @@ said-source (gives (some t)) = suc t
 said-source (gives none) = 0
 said-source (refused n p) = 0
 
-same-source : (a b : Source) → source-says a ≡ source-says b → a ≡ b
+pub same-source : (a b : Source) → source-says a ≡ source-says b → a ≡ b
 same-source (Of t) (Of u) e = let q : suc t ≡ suc u = ap said-source e in ap Of (omega arith)
-same-source (Of t) Nothing e = let q : suc t ≡ 0 = ap said-source e in absurd (omega arith)
+same-source (Of t) None e = let q : suc t ≡ 0 = ap said-source e in absurd (omega arith)
 same-source (Of t) (SourceRefused s) e = absurd (no-zero s (sym (ap said-number e)))
-same-source Nothing (Of u) e = let q : 0 ≡ suc u = ap said-source e in absurd (omega arith)
-same-source Nothing Nothing e = refl
-same-source Nothing (SourceRefused s) e = absurd (no-zero s (sym (ap said-number e)))
+same-source None (Of u) e = let q : 0 ≡ suc u = ap said-source e in absurd (omega arith)
+same-source None None e = refl
+same-source None (SourceRefused s) e = absurd (no-zero s (sym (ap said-number e)))
 same-source (SourceRefused r) (Of u) e = absurd (no-zero r (ap said-number e))
-same-source (SourceRefused r) Nothing e = absurd (no-zero r (ap said-number e))
+same-source (SourceRefused r) None e = absurd (no-zero r (ap said-number e))
 same-source (SourceRefused r) (SourceRefused s) e = ap SourceRefused (same-refusal r s (ap said-number e) (ap said-place e))
 
+pub same-found : (a b : Found) → found-says a ≡ found-says b → a ≡ b
+same-found (At e) (At f) h = let q : e ≡ f = cc in ap At q
+same-found (At e) NoneFound h = let z : _≡_ {A = ℕ} 0 1 = cc in absurd (omega arith)
+same-found NoneFound (At f) h = let z : _≡_ {A = ℕ} 0 1 = cc in absurd (omega arith)
+same-found NoneFound NoneFound h = refl
+
+-- The premises below are the promises of src/check.rt and src/source.rt, word for word.
 -- THEOREM: any two answers that `check` promises for a log are equal
 pub check-determined : (log : List ℕ) (a b : Checked) → checked-says a ≡ check-answer log → checked-says b ≡ check-answer log → a ≡ b
 check-determined log a b p q = same-checked a b (p ∙ sym q)
@@ -90,3 +99,7 @@ check-determined log a b p q = same-checked a b (p ∙ sym q)
 -- THEOREM: any two answers that `source_of_record` promises for a log and a number are equal
 pub source-determined : (log : List ℕ) (k : ℕ) (a b : Source) → source-says a ≡ source-answer log k → source-says b ≡ source-answer log k → a ≡ b
 source-determined log k a b p q = same-source a b (p ∙ sym q)
+
+-- THEOREM: any two answers that `source_record` promises for a log and a record are equal
+pub found-determined : (log : List ℕ) (k : ℕ) (a b : Found) → found-says a ≡ source-record log k → found-says b ≡ source-record log k → a ≡ b
+found-determined log k a b p q = same-found a b (p ∙ sym q)

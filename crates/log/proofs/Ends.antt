@@ -3,23 +3,21 @@ use Prim.Native.Nat.{ℕ, _<_}
 use mathlib.Core.Path.{_≡_, refl, sym, _∙_, ap, ap₂}
 use mathlib.Core.List.{List}
 use mathlib.Core.Bool.{Bool, true, false, not, _&&_}
-use mathlib.Core.Option.{Option, some, none}
+use mathlib.Core.Option.{Option}
 use lib.ListN.{getD}
-use Rattle.sets.specs.Search.{first-below}
 use Rattle.sets.specs.Bits.{has}
-use Rattle.sets.proofs.Truth.{and-left}
 use Rattle.sets.proofs.Searches.{first-hit, first-miss}
 use Rattle.log.specs.Answer.{refused, passed}
-use Rattle.log.specs.Record.{transactions, records, is-by, in-log, committed}
+use Rattle.log.specs.Record.{transactions, records, in-log}
 use Rattle.log.specs.Refusal.{never-commits, place-or-zero, first-record, refused-9, end-answer}
-use Rattle.log.specs.Kept.{Ended, Firsts}
+use Rattle.log.specs.Kept.{KeptCommits, KeptNames}
 
 -- nobody is left without a commit
 pub all-commit : (log : List ℕ) → ((t : ℕ) → t < transactions → never-commits log t ≡ false) → end-answer log ≡ passed
 unfolding end-answer
 all-commit log h = ap (refused-9 log) (first-miss (never-commits log) transactions h)
 
-module _ (log : List ℕ) (seen ended : ℕ) (firsts : List ℕ) (w : Firsts log (records log) seen firsts) (v : Ended log (records log) ended) where
+module _ (log : List ℕ) (seen ended : ℕ) (firsts : List ℕ) (w : KeptNames log (records log) seen firsts) (v : KeptCommits log (records log) ended) where
   pub never-kept : (t : ℕ) → (has seen t && not (has ended t)) ≡ never-commits log t
   unfolding never-commits in-log
   never-kept t = ap₂ (λ (a b : Bool). a && not b) (w .said t) (v .said t)

@@ -2,18 +2,18 @@
 use Prim.Native.Nat.{ℕ, zero, suc, _<_, _≤_}
 use native.Mathlib.Omega.{arith}
 use mathlib.Core.Path.{_≡_, refl}
-use mathlib.Core.Bool.{Bool, not, _&&_}
+use mathlib.Core.Bool.{not, _&&_}
 use lib.Dec.{eqb, ltb}
 use borrow.Author.Tests.{ne-eqb}
-use Rattle.log.specs.Answer.{Answer, refused, row}
+use Rattle.log.specs.Answer.{refused, row}
 use Rattle.log.specs.Record.{transactions, items, sites, read-kind, write-kind, commit-kind}
 use Rattle.log.specs.Refusal.{known-kind, in-range, form-answer}
 
--- a read or a write: the kinds below 3 but for 0
-pub access-form : (k b t x s : ℕ) → (b ≡ 0 → ⊥) → b < 3
+-- a read or a write: the kinds 1 and 2
+pub access-form : (k b t x s : ℕ) → 1 ≤ b → b < 3
     → form-answer k b t x s ≡ row 5 (not (ltb x items && ltb s sites && ltb t transactions)) k
 unfolding form-answer known-kind in-range read-kind write-kind commit-kind
-access-form k zero t x s f l = absurd (f refl)
+access-form k zero t x s f l = absurd (omega arith)
 access-form k (suc zero) t x s f l = refl
 access-form k (suc (suc zero)) t x s f l = refl
 access-form k (suc (suc (suc b))) t x s f l = absurd (omega arith)

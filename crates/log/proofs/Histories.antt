@@ -14,7 +14,7 @@ use Rattle.sets.proofs.Members.{has-zero, no-member}
 use Rattle.log.specs.Answer.{refused, passed}
 use Rattle.log.specs.Record.{transaction, item, copy-of, is-by, is-read, writes-copy, committed, wrote-copy, wrote-item, written}
 use Rattle.log.specs.Refusal.{after-commit, reads-unwritten, reads-past-own, read-answer, history-answer}
-use Rattle.log.specs.Kept.{CopyWriters, ItemWriters, Ended}
+use Rattle.log.specs.Kept.{KeptCopies, KeptItems, KeptCommits}
 
 module _ (log : List ℕ) (k : ℕ) where
   -- the answer, by which test is the first to hold
@@ -39,7 +39,7 @@ module _ (log : List ℕ) (k : ℕ) where
   gives-none b d = rw (b, d) refl
 
   -- 6, from the set of those that have committed
-  pub after-kept : (ended t : ℕ) → Ended log k ended → t ≡ transaction log k → has ended t ≡ after-commit log k
+  pub after-kept : (ended t : ℕ) → KeptCommits log k ended → t ≡ transaction log k → has ended t ≡ after-commit log k
   unfolding after-commit
   after-kept ended t w e = w .said t ∙ ap (λ (x : ℕ). committed log x k) e
 
@@ -48,7 +48,7 @@ module _ (log : List ℕ) (k : ℕ) where
   unfolding read-answer reads-unwritten reads-past-own
   other-passes e = rw e refl
 
-  module _ (copies : List ℕ) (c : ℕ) (w : CopyWriters log k copies) (same : c ≡ copy-of log k) (r : is-read log k ≡ true) where
+  module _ (copies : List ℕ) (c : ℕ) (w : KeptCopies log k copies) (same : c ≡ copy-of log k) (r : is-read log k ≡ true) where
     -- 7: nobody has written the copy where its set is 0
     pub unwritten-kept : getD copies c 0 ≡ 0 → reads-unwritten log k ≡ true
     unfolding reads-unwritten written is-by
@@ -76,7 +76,7 @@ module _ (log : List ℕ) (k : ℕ) where
             (λ e l. ap (λ (b : Bool). is-by log e i && b) (none-some (λ e. writes-copy log e c) k n e l) ∙ and-nothing (is-by log e i))
 
     -- 8: the item's set has the transaction, and the copy's set has it not
-    pub past-kept : (items : List ℕ) (x t : ℕ) → ItemWriters log k items → x ≡ item log k → t ≡ transaction log k
+    pub past-kept : (items : List ℕ) (x t : ℕ) → KeptItems log k items → x ≡ item log k → t ≡ transaction log k
         → (has (getD items x 0) t && not (has (getD copies c 0) t)) ≡ reads-past-own log k
     unfolding reads-past-own wrote-item wrote-copy
     past-kept items x t v ex et = rw (r, v .said x t, w .said c t, ex, et, same) refl

@@ -3,7 +3,7 @@ pub mod KindBytes
 pub mod Forms
 pub mod Steps
 pub mod Histories
-pub mod Passing
+pub mod Ranges
 pub mod Ends
 pub mod Records
 pub mod Lengths

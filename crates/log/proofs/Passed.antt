@@ -3,9 +3,9 @@
 use Prim.Native.Nat.{ℕ, zero, suc, _*_, _%_, _≤_, _<_}
 use native.Mathlib.Omega.{arith}
 use native.Mathlib.Decide.{decLt}
-use mathlib.Core.Path.{_≡_, refl}
+use mathlib.Core.Path.{_≡_, refl, ap}
 use mathlib.Core.List.{List}
-use mathlib.Core.Bool.{Bool, true, false, not, _&&_, _||_, cond}
+use mathlib.Core.Bool.{true, false, _&&_, _||_, cond}
 use mathlib.Core.Option.{Option, none, some}
 use mathlib.Core.Logic.{_⊎_, inl, inr, ⊎-elim, _↔_}
 use lib.ListN.{length}
@@ -14,18 +14,18 @@ use borrow.Author.Tests.{ltb-false, eqb-true, eq-eqb, not-false}
 use Rattle.sets.specs.Search.{first-below, last-below}
 use Rattle.sets.proofs.Truth.{clash, and-true, and-left, and-right, or-cases}
 use Rattle.sets.proofs.Searches.{some-found, some-hit, some-none, first-none-below, Last, last-none, last-view}
-use Rattle.log.specs.Answer.{Answer, passed, row, _then_}
-use Rattle.log.specs.Record.{InRange, record-bytes, transactions, items, sites, most-records, most-bytes, kind, transaction, item, site, records, read-kind, write-kind, commit-kind, is-read, is-write, is-commit, copy-of, is-by, named, committed, wrote-copy, wrote-item, written, in-log}
+use Rattle.log.specs.Answer.{Answer, passed, row}
+use Rattle.log.specs.Record.{Within, record-bytes, transactions, items, sites, most-records, most-bytes, kind, transaction, item, site, records, read-kind, write-kind, commit-kind, is-read, is-write, is-commit, copy-of, is-by, named, committed, wrote-copy, wrote-item, written, writes-copy, writes-item, copy-number, in-log}
 use Rattle.log.specs.Refusal.{too-long, ragged, known-kind, in-range, form-answer, after-commit, reads-unwritten, reads-past-own, read-answer, history-answer, record-answer, records-answer, never-commits, first-record, refused-9, end-answer, length-answer, content-answer, check-answer}
-use Rattle.log.specs.Source.{source-record}
+use Rattle.log.specs.Source.{source-record, its-transaction, source}
 use Rattle.log.proofs.Answers.{never-both, then-left, then-right, row-fails}
-use Rattle.log.proofs.Passing.{form-known, form-in-range, in-range-record}
+use Rattle.log.proofs.Ranges.{form-known, form-in-range, within-record}
 use Rattle.log.proofs.Records.{each-passes}
 use Rattle.log.proofs.Ends.{all-commit}
 use Rattle.log.proofs.Sources.{Sourced, sourced, writes-it}
 
 module _ (log : List ℕ) where
-  -- no number of the table applies to the log
+  -- none of 1, 2 and 4 to 9 applies (3 and 10 are not about the log)
   pub record NothingApplies : Type 0 where
     pub no-1 : too-long log ≡ false
     pub no-2 : ragged log ≡ false
@@ -130,7 +130,7 @@ module _ (log : List ℕ) where
   pub passes-exactly : check-answer log ≡ passed ↔ NothingApplies
   passes-exactly = (nothing-applies, check-back)
 
--- what the records before k have, as facts of single records
+-- what has happened before record k, as facts of single records
 module _ (log : List ℕ) where
   pub by-own : (k : ℕ) → is-by log k (transaction log k) ≡ true
   unfolding is-by
@@ -156,6 +156,30 @@ module _ (log : List ℕ) where
   unfolding committed
   committed-hit t c k l b h = some-hit (λ e. is-by log e t && is-commit log e) k c l (and-true (is-by log c t) (is-commit log c) b h)
 
+  pub writes-copy-found : (e c : ℕ) → writes-copy log e c ≡ true → (is-write log e ≡ true) × (copy-of log e ≡ c)
+  unfolding writes-copy
+  writes-copy-found e c h =
+      (and-left (is-write log e) (eqb (copy-of log e) c) h, eqb-true (copy-of log e) c (and-right (is-write log e) (eqb (copy-of log e) c) h))
+
+  pub writes-copy-hit : (e c : ℕ) → is-write log e ≡ true → copy-of log e ≡ c → writes-copy log e c ≡ true
+  unfolding writes-copy
+  writes-copy-hit e c w q = and-true (is-write log e) (eqb (copy-of log e) c) w (eq-eqb (copy-of log e) c q)
+
+  pub wrote-copy-found : (t c k : ℕ) → wrote-copy log t c k ≡ true → (e : ℕ) × (e < k) × ((is-by log e t && writes-copy log e c) ≡ true)
+  unfolding wrote-copy
+  wrote-copy-found t c k h = some-found (λ e. is-by log e t && writes-copy log e c) k h
+
+  pub wrote-item-hit : (t x e k : ℕ) → e < k → is-by log e t ≡ true → is-write log e ≡ true → item log e ≡ x → wrote-item log t x k ≡ true
+  unfolding wrote-item writes-item
+  wrote-item-hit t x e k l b w q =
+      some-hit (λ i. is-by log i t && writes-item log i x) k e l
+      (and-true (is-by log e t) (is-write log e && eqb (item log e) x) b (and-true (is-write log e) (eqb (item log e) x) w (eq-eqb (item log e) x q)))
+
+  -- two records within the limits that are on one copy are of one item and one site
+  pub same-copy : (j k : ℕ) → Within log j → Within log k → copy-of log j ≡ copy-of log k → (item log j ≡ item log k) × (site log j ≡ site log k)
+  unfolding copy-of copy-number
+  same-copy j k v w e = (omega (arith, v .site-within, w .site-within), omega (arith, v .site-within, w .site-within))
+
 -- record c is the commit of transaction t, after all its other records
 pub record CommitOf (log : List ℕ) (t c : ℕ) : Type 0 where
   pub there : c < records log
@@ -175,8 +199,8 @@ module _ (log : List ℕ) (h : check-answer log ≡ passed) where
   passed-few = let e = ltb-false most-bytes (length log) (nothing-applies log h .no-1) in omega arith
 
   -- every record is in range
-  pub passed-in-range : (k : ℕ) → k < records log → InRange log k
-  passed-in-range k l = in-range-record log k l (form-passes log k (each-passes log (records log) k l (records-pass log h)))
+  pub passed-within : (k : ℕ) → k < records log → Within log k
+  passed-within k l = within-record log k l (form-passes log k (each-passes log (records log) k l (records-pass log h)))
 
   pub passed-kind : (k : ℕ) → k < records log → (is-read log k ≡ true) ⊎ ((is-write log k ≡ true) ⊎ (is-commit log k ≡ true))
   unfolding known-kind is-read is-write is-commit
@@ -198,9 +222,9 @@ module _ (log : List ℕ) (h : check-answer log ≡ passed) where
   pub passed-low : (t : ℕ) → in-log log t ≡ true → t < transactions
   passed-low t i =
       let w = in-log-found log t i in
-      let r = passed-in-range (w .0) (w .1) in
+      let r = passed-within (w .0) (w .1) in
       let e = by-same log (w .0) t (w .2) in
-      omega (arith, r .transaction-low)
+      omega (arith, r .transaction-within)
 
   -- no record of a transaction stands after its commit
   after : (t c k : ℕ) → c < k → k < records log → is-by log c t ≡ true → is-commit log c ≡ true → is-by log k t ≡ true → ⊥
@@ -239,6 +263,23 @@ module _ (log : List ℕ) (h : check-answer log ≡ passed) where
           → (e : ℕ) × (source-record log k ≡ some e) × Sourced log k e
       go none (last-none f) q = absurd (clash (written log (copy-of log k) k) (passed-written k l r) (some-none (writes-it log k) k f))
       go (some e) v q = let s : source-record log k ≡ some e = rw r q in (e, s, sourced log k e s)
+
+  -- so its source is a transaction in the log
+  pub passed-source-of : (k e : ℕ) → source-record log k ≡ some e → source log k ≡ some (transaction log e)
+  unfolding source
+  passed-source-of k e h = ap (its-transaction log) h
+
+  pub passed-source-low : (k t : ℕ) → k < records log → source log k ≡ some t → (in-log log t ≡ true) × (t < transactions)
+  unfolding source
+  passed-source-low k t l = go (source-record log k) refl
+    where
+      go : (o : Option ℕ) → source-record log k ≡ o → its-transaction log o ≡ some t → (in-log log t ≡ true) × (t < transactions)
+      go none q r = let z : _≡_ {A = ℕ} 0 1 = cc in absurd (omega arith)
+      go (some e) q r =
+          let s = sourced log k e q in
+          let same : transaction log e ≡ t = cc in
+          let named-it = rw same at (in-log-hit log (transaction log e) e (omega (arith, s .earlier)) (by-own log e)) in
+          (named-it, passed-low t named-it)
 
   -- 8: a read of an item that its transaction wrote earlier is of a copy that it wrote earlier
   pub passed-own : (k : ℕ) → k < records log → is-read log k ≡ true → wrote-item log (transaction log k) (item log k) k ≡ true

@@ -2,11 +2,11 @@
 use Prim.Native.Nat.{ℕ, zero, suc, _+_, _<_}
 use native.Mathlib.Numerals.{add-one}
 use native.Mathlib.Omega.{arith}
-use mathlib.Core.Path.{_≡_, refl, sym, _∙_, ap}
+use mathlib.Core.Path.{_≡_, refl, _∙_}
 use mathlib.Core.List.{List}
 use mathlib.Core.Logic.{⊎-elim}
 use Rattle.sets.proofs.Searches.{below-cases}
-use Rattle.log.specs.Answer.{Answer, refused, passed, _then_}
+use Rattle.log.specs.Answer.{refused, passed}
 use Rattle.log.specs.Record.{records}
 use Rattle.log.specs.Refusal.{record-answer, records-answer, end-answer, content-answer}
 use Rattle.log.proofs.Answers.{passed-then, refused-then, then-left, then-right}

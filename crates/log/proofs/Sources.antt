@@ -2,14 +2,14 @@
 use Prim.Native.Nat.{ℕ, _-_, _<_, _≤_}
 use native.Mathlib.Decide.{ℕ-discrete}
 use native.Mathlib.Omega.{arith}
-use mathlib.Core.Path.{_≡_, refl, sym, _∙_, ap}
+use mathlib.Core.Path.{_≡_, refl, _∙_, ap}
 use mathlib.Core.List.{List}
 use mathlib.Core.Bool.{Bool, true, false, cond}
-use mathlib.Core.Option.{Option, none, some}
+use mathlib.Core.Option.{none, some}
 use borrow.Author.Tests.{le-leb, lt-leb}
 use Rattle.sets.specs.Search.{last-below}
 use Rattle.sets.proofs.Searches.{last-hit, last-miss, last-found, Last, last-some}
-use Rattle.log.specs.Answer.{Answer, gives, refused, passed, _then_}
+use Rattle.log.specs.Answer.{gives, refused, passed}
 use Rattle.log.specs.Record.{records, is-read, copy-of, writes-copy}
 use Rattle.log.specs.Refusal.{check-answer}
 use Rattle.log.specs.Source.{source-record, source, source-answer}

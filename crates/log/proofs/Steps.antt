@@ -1,34 +1,28 @@
 -- What is kept, from record k to record k + 1: each law takes the sets as the code stores them. A set gains the record's
 -- transaction where the record counts, and stays where it does not. Assumes nothing.
-use Prim.Native.Nat.{ℕ, _+_, _*_, _<_}
+use Prim.Native.Nat.{ℕ, _+_, _<_}
 use native.Mathlib.Omega.{arith}
 use mathlib.Core.Path.{_≡_, refl, sym, _∙_, ap, ap₂}
 use mathlib.Core.List.{List}
 use mathlib.Core.Bool.{Bool, true, false, _&&_, _||_}
 use mathlib.Core.Option.{some}
-use mathlib.Core.Logic.{_⊎_, ⊎-elim}
 use lib.Dec.{eqb}
-use lib.ListN.{length, getD, set, replicate, length-set, length-replicate, List·getD-eq-default, getD-replicate}
+use lib.ListN.{getD, set, replicate, length-set, length-replicate, List·getD-eq-default, getD-replicate}
 use lib.Seq.{getD-set-same, getD-set-other}
 use native.Mathlib.Decide.{ℕ-discrete, decLt}
-use borrow.Author.Tests.{eq-eqb, ne-eqb, eqb-true, eqb-false}
+use borrow.Author.Tests.{eq-eqb, ne-eqb}
 use Rattle.sets.specs.Search.{some-below, first-below}
 use Rattle.sets.specs.Bits.{has}
-use Rattle.sets.proofs.Truth.{either, clash, and-always, and-nothing, or-nothing, or-inl, or-inr}
+use Rattle.sets.proofs.Truth.{clash, and-always, and-nothing, or-nothing}
 use Rattle.sets.proofs.Searches.{some-more, some-zero, none-some, first-hit, first-stays}
 use Rattle.sets.proofs.Members.{stored, has-zero}
-use Rattle.log.specs.Record.{InRange, transactions, items, sites, transaction, item, site, copy-number, copy-of, is-by, is-write, is-commit, writes-copy, writes-item, named, committed}
-use Rattle.log.specs.Kept.{Writers, Ended, Firsts}
+use Rattle.log.specs.Record.{transactions, transaction, item, copy-of, is-by, is-write, is-commit, writes-copy, writes-item, named, committed}
+use Rattle.log.specs.Kept.{KeptWriters, KeptCommits, KeptNames}
 
--- the copy of a record in range has its place in the table
-pub copy-low : (log : List ℕ) (k : ℕ) → InRange log k → copy-of log k < items * sites
-unfolding copy-number copy-of
-copy-low log k w = omega arith
-
-module _ (log : List ℕ) (writes : ℕ → ℕ → Bool) (wide k : ℕ) (table : List ℕ) (w : Writers log writes wide k table) where
+module _ (log : List ℕ) (writes : ℕ → ℕ → Bool) (wide k : ℕ) (table : List ℕ) (w : KeptWriters log writes wide k table) where
   -- the transaction of a record that writes d is added to the entry d
   pub writers-add : (d t v : ℕ) → d < wide → ((c : ℕ) → writes k c ≡ eqb d c) → t ≡ transaction log k
-      → ((i : ℕ) → has v i ≡ (has (getD table d 0) i || eqb t i)) → Writers log writes wide (k + 1) (set table d v)
+      → ((i : ℕ) → has v i ≡ (has (getD table d 0) i || eqb t i)) → KeptWriters log writes wide (k + 1) (set table d v)
   unfolding is-by
   writers-add d t v l e q h =
       record {
@@ -40,7 +34,7 @@ module _ (log : List ℕ) (writes : ℕ → ℕ → Bool) (wide k : ℕ) (table 
       }
 
   -- a record that writes nothing adds nothing
-  pub writers-stay : ((c : ℕ) → writes k c ≡ false) → Writers log writes wide (k + 1) table
+  pub writers-stay : ((c : ℕ) → writes k c ≡ false) → KeptWriters log writes wide (k + 1) table
   writers-stay e =
       record {
         whole = w .whole;
@@ -59,7 +53,7 @@ zeros n c = go (decLt c n)
     go (yes l) = getD-replicate n c 0 0 l
     go (no l) = List·getD-eq-default (replicate n 0) 0 (simp length-replicate (omega arith))
 
-pub writers-start : (log : List ℕ) (writes : ℕ → ℕ → Bool) (wide : ℕ) → Writers log writes wide 0 (replicate wide 0)
+pub writers-start : (log : List ℕ) (writes : ℕ → ℕ → Bool) (wide : ℕ) → KeptWriters log writes wide 0 (replicate wide 0)
 writers-start log writes wide =
     record {
       whole = length-replicate {A = ℕ} wide 0;
@@ -85,17 +79,17 @@ module _ (log : List ℕ) (k : ℕ) where
   item-silent e x = rw e refl
 
 -- commits
-pub ended-start : (log : List ℕ) → Ended log 0 0
+pub ended-start : (log : List ℕ) → KeptCommits log 0 0
 unfolding committed
 ended-start log = record { said = λ t. has-zero t ∙ sym (some-zero (λ e. is-by log e t && is-commit log e)) }
 
-module _ (log : List ℕ) (k ended : ℕ) (w : Ended log k ended) where
+module _ (log : List ℕ) (k ended : ℕ) (w : KeptCommits log k ended) where
   commits-more : (t : ℕ) → committed log t (k + 1) ≡ (committed log t k || (is-by log k t && is-commit log k))
   unfolding committed
   commits-more t = some-more (λ e. is-by log e t && is-commit log e) k
 
   pub ended-add : (t v : ℕ) → is-commit log k ≡ true → t ≡ transaction log k → ((i : ℕ) → has v i ≡ (has ended i || eqb t i))
-      → Ended log (k + 1) v
+      → KeptCommits log (k + 1) v
   unfolding is-by
   ended-add t v e q h =
       record {
@@ -105,7 +99,7 @@ module _ (log : List ℕ) (k ended : ℕ) (w : Ended log k ended) where
             ∙ sym (commits-more i);
       }
 
-  pub ended-stay : is-commit log k ≡ false → Ended log (k + 1) ended
+  pub ended-stay : is-commit log k ≡ false → KeptCommits log (k + 1) ended
   ended-stay e =
       record {
         said = λ t.
@@ -116,7 +110,7 @@ module _ (log : List ℕ) (k ended : ℕ) (w : Ended log k ended) where
       }
 
 -- names
-pub firsts-start : (log : List ℕ) → Firsts log 0 0 (replicate transactions 0)
+pub firsts-start : (log : List ℕ) → KeptNames log 0 0 (replicate transactions 0)
 unfolding named
 firsts-start log =
     record {
@@ -125,7 +119,7 @@ firsts-start log =
       first = λ t h. absurd (clash (some-below 0 (λ e. is-by log e t)) h (some-zero (λ e. is-by log e t)));
     }
 
-module _ (log : List ℕ) (k seen : ℕ) (firsts : List ℕ) (w : Firsts log k seen firsts) where
+module _ (log : List ℕ) (k seen : ℕ) (firsts : List ℕ) (w : KeptNames log k seen firsts) where
   names-more : (t : ℕ) → named log t (k + 1) ≡ (named log t k || is-by log k t)
   unfolding named
   names-more t = some-more (λ e. is-by log e t) k
@@ -134,7 +128,7 @@ module _ (log : List ℕ) (k seen : ℕ) (firsts : List ℕ) (w : Firsts log k s
   stays t h = first-stays (λ e. is-by log e t) k (getD firsts t 0) (w .first t h)
 
   -- a transaction that was named before
-  pub firsts-stay : (own : ℕ) → own ≡ transaction log k → has seen own ≡ true → Firsts log (k + 1) seen firsts
+  pub firsts-stay : (own : ℕ) → own ≡ transaction log k → has seen own ≡ true → KeptNames log (k + 1) seen firsts
   unfolding is-by
   firsts-stay own e h = record { whole = w .whole; said = λ t. w .said t ∙ sym (again t); first = λ t q. stays t (sym (again t) ∙ q) }
     where
@@ -147,7 +141,7 @@ module _ (log : List ℕ) (k seen : ℕ) (firsts : List ℕ) (w : Firsts log k s
 
   -- a transaction that is named for the first time
   pub firsts-add : (own v : ℕ) → own ≡ transaction log k → own < transactions → has seen own ≡ false
-      → ((t : ℕ) → has v t ≡ (has seen t || eqb own t)) → Firsts log (k + 1) v (set firsts own k)
+      → ((t : ℕ) → has v t ≡ (has seen t || eqb own t)) → KeptNames log (k + 1) v (set firsts own k)
   unfolding is-by named
   firsts-add own v s l f h =
       record {

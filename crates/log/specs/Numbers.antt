@@ -1,4 +1,5 @@
--- The numbers and places of document 01 for each case of the code's answers. Every promise speaks through these definitions.
+-- The numbers and places of document 01 for each case of the code's answers. Every promise about a refusal or a source speaks
+-- through these definitions.
 use Prim.Native.Nat.{ℕ}
 use mathlib.Core.Option.{Option, none, some}
 use Rattle.log.specs.Answer.{Answer, gives, refused, passed}
@@ -7,9 +8,9 @@ use Rattle.log.specs.declared.refusal.Refusal.the-variants.{TooLong, Rag
 use Rattle.log.specs.declared.refusal.Checked.{Checked}
 use Rattle.log.specs.declared.refusal.Checked.the-variants.{Passed, Refused}
 use Rattle.log.specs.declared.source.Found.{Found}
-use Rattle.log.specs.declared.source.Found.the-variants.{At, Nothing as NothingFound}
+use Rattle.log.specs.declared.source.Found.the-variants.{At, None as NoneFound}
 use Rattle.log.specs.declared.source.Source.{Source}
-use Rattle.log.specs.declared.source.Source.the-variants.{Of, Nothing, Refused as SourceRefused}
+use Rattle.log.specs.declared.source.Source.the-variants.{Of, None, Refused as SourceRefused}
 
 abbrev pub number-of : Refusal → ℕ
 number-of TooLong = 1
@@ -43,10 +44,10 @@ checked-says (Refused r) = refused (number-of r) (place-of r)
 -- what the answer to the question of a source says
 abbrev pub source-says : Source → Answer (Option ℕ)
 source-says (Of t) = gives (some t)
-source-says Nothing = gives none
+source-says None = gives none
 source-says (SourceRefused r) = refused (number-of r) (place-of r)
 
 -- what a walk back found
 abbrev pub found-says : Found → Option ℕ
 found-says (At e) = some e
-found-says NothingFound = none
+found-says NoneFound = none

@@ -1,4 +1,4 @@
--- The log of document 01: its records, what each of them names, and which of them stand on one copy.
+-- The log of document 01: its records, what each of them names, and what has happened before a record.
 -- A log is the list of its bytes. A record is known by its place, counted from 0.
 use Prim.Native.Nat.{ℕ, _+_, _*_, _/_, _<_}
 use mathlib.Core.List.{List}
@@ -45,12 +45,12 @@ site log k = getD log (k * record-bytes + 3) 0
 unfoldable pub records : List ℕ → ℕ
 records log = length log / record-bytes
 
--- record k is there, and its numbers are below the limits of all kinds
-pub record InRange (log : List ℕ) (k : ℕ) : Type 0 where
+-- record k is there, and its numbers are below the limits, whatever its kind (a commit's are narrower still)
+pub record Within (log : List ℕ) (k : ℕ) : Type 0 where
   pub there : k < records log
-  pub transaction-low : transaction log k < transactions
-  pub item-low : item log k < items
-  pub site-low : site log k < sites
+  pub transaction-within : transaction log k < transactions
+  pub item-within : item log k < items
+  pub site-within : site log k < sites
 
 -- "Kinds: 1 read, 2 write, 3 commit"
 unfoldable pub read-kind : ℕ → Bool

@@ -1,10 +1,10 @@
 // The check of a log: numbers 1, 2 and 4 to 9, in one pass over the records.
 ghost use mathlib.Core.Path.{_≡_};
 ghost use Prim.Native.Nat.{_<_};
-ghost use Rattle.log.specs.Refusal.{record-answer, content-answer, check-answer, end-answer};
+ghost use Rattle.log.specs.Refusal.{record-answer, end-answer, length-answer, content-answer, check-answer};
 ghost use Rattle.log.specs.Record.{records};
 ghost use Rattle.log.specs.Numbers.{checked-says};
-ghost use Rattle.log.specs.Kept.{CopyWriters, ItemWriters, Ended, Firsts};
+ghost use Rattle.log.specs.Kept.{KeptCopies, KeptItems, KeptCommits, KeptNames};
 use crate::form::form_answer;
 use crate::kept::history_answer;
 use crate::kept::keep_commit;
@@ -15,21 +15,23 @@ use crate::record::MOST_BYTES;
 use crate::record::RECORD_BYTES;
 use crate::record::TRANSACTIONS;
 use crate::record::record_at;
+use crate::record::record_count;
 use crate::refusal::Checked;
 use crate::refusal::Refusal;
 
 // Number 9, from what is kept of a whole log: the lowest-numbered transaction that is named and has not committed.
-fn end_answer(log: &[u8], seen: u64, ended: u64, firsts: &[usize; TRANSACTIONS]) -> Checked
-    requires { ⌜ Firsts (now log) (records (now log)) seen (now firsts) ⌝ }
-    requires { ⌜ Ended (now log) (records (now log)) ended ⌝ }
+fn end_answer(log: &[u8], named: u64, committed: u64, firsts: &[usize; TRANSACTIONS]) -> Checked
+    requires { ⌜ KeptNames (now log) (records (now log)) named (now firsts) ⌝ }
+    requires { ⌜ KeptCommits (now log) (records (now log)) committed ⌝ }
     ensures { λ r. ⌜ checked-says r ≡ end-answer (now (log .entry)) ⌝ }
 {
-    if seen == ended {
+    // Nearly every log ends here, without the search.
+    if named == committed {
         return Checked::Passed;
     }
     for t in 0..TRANSACTIONS {
-        if sets::has_member(seen, t) {
-            if !sets::has_member(ended, t) {
+        if sets::has_member(named, t) {
+            if !sets::has_member(committed, t) {
                 return Checked::Refused(Refusal::NeverCommits(firsts[t]));
             }
         }
@@ -41,14 +43,14 @@ fn end_answer(log: &[u8], seen: u64, ended: u64, firsts: &[usize; TRANSACTIONS])
 fn record_answer(
     log: &[u8],
     k: usize,
-    copies: &[u64; Copy::COPIES],
-    items: &[u64; Copy::ITEMS],
-    ended: u64,
+    copy_writers: &[u64; Copy::COPIES],
+    item_writers: &[u64; Copy::ITEMS],
+    committed: u64,
 ) -> Checked
     requires { ⌜ k < records (now log) ⌝ }
-    requires { ⌜ CopyWriters (now log) k (now copies) ⌝ }
-    requires { ⌜ ItemWriters (now log) k (now items) ⌝ }
-    requires { ⌜ Ended (now log) k ended ⌝ }
+    requires { ⌜ KeptCopies (now log) k (now «copy_writers») ⌝ }
+    requires { ⌜ KeptItems (now log) k (now «item_writers») ⌝ }
+    requires { ⌜ KeptCommits (now log) k committed ⌝ }
     ensures { λ r. ⌜ checked-says r ≡ record-answer (now (log .entry)) k ⌝ }
 {
     let r = record_at(log, k);
@@ -56,36 +58,12 @@ fn record_answer(
     if let Checked::Refused(_) = form {
         return form;
     }
-    history_answer(log, k, copies, items, ended)
+    history_answer(log, k, copy_writers, item_writers, committed)
 }
 
-// Numbers 4 to 9: one pass over the records, and a look at what is kept when they have passed.
-fn content_answer(log: &[u8]) -> Checked
-    ensures { λ r. ⌜ checked-says r ≡ content-answer (now (log .entry)) ⌝ }
-{
-    let mut copies = [0u64; Copy::COPIES];
-    let mut items = [0u64; Copy::ITEMS];
-    let mut firsts = [0usize; TRANSACTIONS];
-    let mut seen: u64 = 0;
-    let mut ended: u64 = 0;
-    let n = log.len() / RECORD_BYTES;
-    let mut k = 0;
-    while k < n {
-        let answer = record_answer(log, k, &copies, &items, ended);
-        if let Checked::Refused(_) = answer {
-            return answer;
-        }
-        keep_write(log, k, &mut copies, &mut items);
-        seen = keep_first(log, k, seen, &mut firsts);
-        ended = keep_commit(log, k, ended);
-        k += 1;
-    }
-    end_answer(log, seen, ended, &firsts)
-}
-
-// The first number that applies to the log, with its place; or it has passed. Any bytes may stand in it.
-pub fn check(log: &[u8]) -> Checked
-    ensures { λ r. ⌜ checked-says r ≡ check-answer (now (log .entry)) ⌝ }
+// Numbers 1 and 2, which look at the length alone.
+pub fn length_answer(log: &[u8]) -> Checked
+    ensures { λ r. ⌜ checked-says r ≡ length-answer (now (log .entry)) ⌝ }
 {
     let n = log.len();
     if MOST_BYTES < n {
@@ -93,6 +71,41 @@ pub fn check(log: &[u8]) -> Checked
     }
     if n % RECORD_BYTES != 0 {
         return Checked::Refused(Refusal::Ragged);
+    }
+    Checked::Passed
+}
+
+// Numbers 4 to 9: one pass over the records, a fixed number of steps for each, and at most 64 steps after the last.
+pub fn content_answer(log: &[u8]) -> Checked
+    ensures { λ r. ⌜ checked-says r ≡ content-answer (now (log .entry)) ⌝ }
+{
+    let mut copy_writers = [0u64; Copy::COPIES];
+    let mut item_writers = [0u64; Copy::ITEMS];
+    let mut firsts = [0usize; TRANSACTIONS];
+    let mut named: u64 = 0;
+    let mut committed: u64 = 0;
+    let n = record_count(log);
+    let mut k = 0;
+    while k < n {
+        let answer = record_answer(log, k, &copy_writers, &item_writers, committed);
+        if let Checked::Refused(_) = answer {
+            return answer;
+        }
+        keep_write(log, k, &mut copy_writers, &mut item_writers);
+        named = keep_first(log, k, named, &mut firsts);
+        committed = keep_commit(log, k, committed);
+        k += 1;
+    }
+    end_answer(log, named, committed, &firsts)
+}
+
+// The first number that applies to the log, with its place; or it has passed. Any bytes may stand in it.
+pub fn check(log: &[u8]) -> Checked
+    ensures { λ r. ⌜ checked-says r ≡ check-answer (now (log .entry)) ⌝ }
+{
+    let length = length_answer(log);
+    if let Checked::Refused(_) = length {
+        return length;
     }
     content_answer(log)
 }

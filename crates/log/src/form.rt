@@ -6,38 +6,43 @@ ghost use Rattle.log.specs.Answer.{row};
 ghost use Rattle.log.specs.Record.{transactions};
 ghost use Rattle.log.specs.Refusal.{form-answer};
 ghost use Rattle.log.specs.Numbers.{checked-says};
+use crate::record::COMMIT;
+use crate::record::Copy;
+use crate::record::LAST_TRANSACTION;
+use crate::record::READ;
+use crate::record::WRITE;
 use crate::refusal::Checked;
 use crate::refusal::Refusal;
 
-// Every kind of record names a transaction from 0 to 63.
+// Number 5 for the transaction, which every kind of record names from the same range.
 fn transaction_form(k: usize, transaction: u8) -> Checked
     ensures { λ r. ⌜ checked-says r ≡ row 5 (not (ltb transaction transactions)) k ⌝ }
 {
     match transaction {
-        0..=63 => Checked::Passed,
+        0..=LAST_TRANSACTION => Checked::Passed,
         _ => Checked::Refused(Refusal::OutOfRange(k)),
     }
 }
 
 // Numbers 4 and 5 for the bytes of the record at place k. A read or a write names any copy, a commit item 0 and site 0.
-pub fn form_answer(k: usize, kind: u8, transaction: u8, item: u8, site: u8) -> Checked
+pub(crate) fn form_answer(k: usize, kind: u8, transaction: u8, item: u8, site: u8) -> Checked
     ensures { λ r. ⌜ checked-says r ≡ form-answer k kind transaction item site ⌝ }
 {
     match kind {
-        1 | 2 => match item {
-            0..=63 => match site {
-                0..=15 => transaction_form(k, transaction),
+        READ | WRITE => match item {
+            0..=Copy::LAST_ITEM => match site {
+                0..=Copy::LAST_SITE => transaction_form(k, transaction),
                 _ => Checked::Refused(Refusal::OutOfRange(k)),
             },
             _ => Checked::Refused(Refusal::OutOfRange(k)),
         },
-        3 => match item {
+        COMMIT => match item {
             0 => match site {
                 0 => transaction_form(k, transaction),
                 _ => Checked::Refused(Refusal::OutOfRange(k)),
             },
             _ => Checked::Refused(Refusal::OutOfRange(k)),
         },
-        0 | 4..=255 => Checked::Refused(Refusal::BadKind(k)),
+        _ => Checked::Refused(Refusal::BadKind(k)),
     }
 }

@@ -3,10 +3,10 @@
 ghost use mathlib.Core.Path.{_≡_};
 ghost use mathlib.Core.Bool.{true};
 ghost use Prim.Native.Nat.{_+_};
-ghost use Rattle.log.specs.Record.{InRange, is-read};
+ghost use Rattle.log.specs.Record.{Within, is-read};
 ghost use Rattle.log.specs.Refusal.{read-answer, history-answer};
 ghost use Rattle.log.specs.Numbers.{checked-says};
-ghost use Rattle.log.specs.Kept.{CopyWriters, ItemWriters, Ended, Firsts};
+ghost use Rattle.log.specs.Kept.{KeptCopies, KeptItems, KeptCommits, KeptNames};
 use crate::record::COMMIT;
 use crate::record::Copy;
 use crate::record::READ;
@@ -23,23 +23,23 @@ use crate::refusal::Refusal;
 fn read_answer(
     log: &[u8],
     k: usize,
-    copies: &[u64; Copy::COPIES],
-    items: &[u64; Copy::ITEMS],
+    copy_writers: &[u64; Copy::COPIES],
+    item_writers: &[u64; Copy::ITEMS],
 ) -> Checked
-    requires { ⌜ InRange (now log) k ⌝ }
+    requires { ⌜ Within (now log) k ⌝ }
     requires { ⌜ is-read (now log) k ≡ true ⌝ }
-    requires { ⌜ CopyWriters (now log) k (now copies) ⌝ }
-    requires { ⌜ ItemWriters (now log) k (now items) ⌝ }
+    requires { ⌜ KeptCopies (now log) k (now «copy_writers») ⌝ }
+    requires { ⌜ KeptItems (now log) k (now «item_writers») ⌝ }
     ensures { λ r. ⌜ checked-says r ≡ read-answer (now (log .entry)) k ⌝ }
 {
     let t = transaction_at(log, k);
     let c = copy_at(log, k);
     let x = item_at(log, k);
-    let writers = copies[c];
+    let writers = copy_writers[c];
     if writers == 0 {
         return Checked::Refused(Refusal::ReadsUnwritten(k));
     }
-    if !sets::has_member(items[x], t) {
+    if !sets::has_member(item_writers[x], t) {
         return Checked::Passed;
     }
     if sets::has_member(writers, t) {
@@ -49,74 +49,79 @@ fn read_answer(
 }
 
 // Numbers 6 to 8 at record k, which is of right form.
-pub fn history_answer(
+pub(crate) fn history_answer(
     log: &[u8],
     k: usize,
-    copies: &[u64; Copy::COPIES],
-    items: &[u64; Copy::ITEMS],
-    ended: u64,
+    copy_writers: &[u64; Copy::COPIES],
+    item_writers: &[u64; Copy::ITEMS],
+    committed: u64,
 ) -> Checked
-    requires { ⌜ InRange (now log) k ⌝ }
-    requires { ⌜ CopyWriters (now log) k (now copies) ⌝ }
-    requires { ⌜ ItemWriters (now log) k (now items) ⌝ }
-    requires { ⌜ Ended (now log) k ended ⌝ }
+    requires { ⌜ Within (now log) k ⌝ }
+    requires { ⌜ KeptCopies (now log) k (now «copy_writers») ⌝ }
+    requires { ⌜ KeptItems (now log) k (now «item_writers») ⌝ }
+    requires { ⌜ KeptCommits (now log) k committed ⌝ }
     ensures { λ r. ⌜ checked-says r ≡ history-answer (now (log .entry)) k ⌝ }
 {
     let t = transaction_at(log, k);
-    if sets::has_member(ended, t) {
+    if sets::has_member(committed, t) {
         return Checked::Refused(Refusal::AfterCommit(k));
     }
     if kind_at(log, k) == READ {
-        return read_answer(log, k, copies, items);
+        return read_answer(log, k, copy_writers, item_writers);
     }
     Checked::Passed
 }
 
 // Keeps a write: its transaction is a writer of its copy and of its item.
-pub fn keep_write(
+pub(crate) fn keep_write(
     log: &[u8],
     k: usize,
-    copies: &mut [u64; Copy::COPIES],
-    items: &mut [u64; Copy::ITEMS],
+    copy_writers: &mut [u64; Copy::COPIES],
+    item_writers: &mut [u64; Copy::ITEMS],
 )
-    requires { ⌜ InRange (now log) k ⌝ }
-    requires { ⌜ CopyWriters (now log) k (now copies) ⌝ }
-    requires { ⌜ ItemWriters (now log) k (now items) ⌝ }
-    ensures { λ r. ⌜ CopyWriters (now (log .entry)) (k + 1) (now (copies .exit)) ⌝ }
-    ensures { λ r. ⌜ ItemWriters (now (log .entry)) (k + 1) (now (items .exit)) ⌝ }
+    requires { ⌜ Within (now log) k ⌝ }
+    requires { ⌜ KeptCopies (now log) k (now «copy_writers») ⌝ }
+    requires { ⌜ KeptItems (now log) k (now «item_writers») ⌝ }
+    ensures { λ r. ⌜ KeptCopies (now (log .entry)) (k + 1) (now («copy_writers» .exit)) ⌝ }
+    ensures { λ r. ⌜ KeptItems (now (log .entry)) (k + 1) (now («item_writers» .exit)) ⌝ }
 {
     if kind_at(log, k) == WRITE {
         let t = transaction_at(log, k);
         let c = copy_at(log, k);
-        copies[c] = sets::with_member(copies[c], t);
+        copy_writers[c] = sets::with_member(copy_writers[c], t);
         let x = item_at(log, k);
-        items[x] = sets::with_member(items[x], t);
+        item_writers[x] = sets::with_member(item_writers[x], t);
     }
 }
 
 // Keeps a commit: the transactions that have committed once record k is passed.
-pub fn keep_commit(log: &[u8], k: usize, ended: u64) -> u64
-    requires { ⌜ InRange (now log) k ⌝ }
-    requires { ⌜ Ended (now log) k ended ⌝ }
-    ensures { λ r. ⌜ Ended (now (log .entry)) (k + 1) r ⌝ }
+pub(crate) fn keep_commit(log: &[u8], k: usize, committed: u64) -> u64
+    requires { ⌜ Within (now log) k ⌝ }
+    requires { ⌜ KeptCommits (now log) k committed ⌝ }
+    ensures { λ r. ⌜ KeptCommits (now (log .entry)) (k + 1) r ⌝ }
 {
     if kind_at(log, k) == COMMIT {
         let t = transaction_at(log, k);
-        return sets::with_member(ended, t);
+        return sets::with_member(committed, t);
     }
-    ended
+    committed
 }
 
 // Keeps a name: the transactions that are named once record k is passed; a new one has its first record at k.
-pub fn keep_first(log: &[u8], k: usize, seen: u64, firsts: &mut [usize; TRANSACTIONS]) -> u64
-    requires { ⌜ InRange (now log) k ⌝ }
-    requires { ⌜ Firsts (now log) k seen (now firsts) ⌝ }
-    ensures { λ r. ⌜ Firsts (now (log .entry)) (k + 1) r (now (firsts .exit)) ⌝ }
+pub(crate) fn keep_first(
+    log: &[u8],
+    k: usize,
+    named: u64,
+    firsts: &mut [usize; TRANSACTIONS],
+) -> u64
+    requires { ⌜ Within (now log) k ⌝ }
+    requires { ⌜ KeptNames (now log) k named (now firsts) ⌝ }
+    ensures { λ r. ⌜ KeptNames (now (log .entry)) (k + 1) r (now (firsts .exit)) ⌝ }
 {
     let t = transaction_at(log, k);
-    if sets::has_member(seen, t) {
-        return seen;
+    if sets::has_member(named, t) {
+        return named;
     }
     firsts[t] = k;
-    sets::with_member(seen, t)
+    sets::with_member(named, t)
 }

@@ -54,6 +54,7 @@ impl Refusal {
     }
 }
 
+// The answer of a check.
 pub enum Checked {
     Passed,
     Refused(Refusal),

@@ -1,36 +1,38 @@
 // The source of a read, and the question "source of record k".
 ghost use mathlib.Core.Path.{_≡_};
 ghost use Prim.Native.Nat.{_<_};
-ghost use Rattle.log.specs.Record.{records, writes-copy, copy-of};
+ghost use Rattle.log.specs.Answer.{passed};
+ghost use Rattle.log.specs.Record.{Within, records, writes-copy, copy-of};
+ghost use Rattle.log.specs.Refusal.{check-answer};
 ghost use Rattle.log.specs.Source.{source-record, source-answer};
 ghost use Rattle.log.specs.Numbers.{found-says, source-says};
 use crate::check::check;
 use crate::record::READ;
-use crate::record::RECORD_BYTES;
 use crate::record::WRITE;
 use crate::record::copy_at;
 use crate::record::kind_at;
 use crate::record::record_at;
+use crate::record::record_count;
 use crate::refusal::Checked;
 use crate::refusal::Refusal;
 
 // A record's place, or none.
 pub enum Found {
     At(usize),
-    Nothing,
+    None,
 }
 
-// The answer to the question.
+// The answer to the question: the transaction, none for a write or a commit, or a refusal.
 pub enum Source {
     Of(u8),
-    Nothing,
+    None,
     Refused(Refusal),
 }
 
 // Whether record e writes the copy that record k names.
 fn writes_copy_of(log: &[u8], e: usize, k: usize) -> bool
-    requires { ⌜ e < k ⌝ }
-    requires { ⌜ k < records (now log) ⌝ }
+    requires { ⌜ Within (now log) e ⌝ }
+    requires { ⌜ Within (now log) k ⌝ }
     ensures { λ r. ⌜ r ≡ writes-copy (now (log .entry)) e (copy-of (now (log .entry)) k) ⌝ }
 {
     if kind_at(log, e) != WRITE {
@@ -39,13 +41,14 @@ fn writes_copy_of(log: &[u8], e: usize, k: usize) -> bool
     copy_at(log, e) == copy_at(log, k)
 }
 
-// The last write of record k's copy before it, where k is a read. Walks back over the records in between.
+// In a log that passes, the last write of record k's copy before it; none where k is no read. Walks back over the records between.
 pub fn source_record(log: &[u8], k: usize) -> Found
+    requires { ⌜ check-answer (now log) ≡ passed ⌝ }
     requires { ⌜ k < records (now log) ⌝ }
     ensures { λ r. ⌜ found-says r ≡ source-record (now (log .entry)) k ⌝ }
 {
     if kind_at(log, k) != READ {
-        return Found::Nothing;
+        return Found::None;
     }
     let mut e = k;
     while 0 < e {
@@ -54,22 +57,23 @@ pub fn source_record(log: &[u8], k: usize) -> Found
             return Found::At(e);
         }
     }
-    Found::Nothing
+    Found::None
 }
 
-// The transaction whose write record k reads, or nothing for a write or a commit. Any bytes and any number may be asked.
+// The transaction whose write record k reads. Any bytes and any number may be asked: the log is checked first, and then that it
+// has a record k.
 pub fn source_of_record(log: &[u8], k: usize) -> Source
     ensures { λ r. ⌜ source-says r ≡ source-answer (now (log .entry)) k ⌝ }
 {
     match check(log) {
         Checked::Refused(why) => Source::Refused(why),
         Checked::Passed => {
-            if log.len() / RECORD_BYTES <= k {
+            if record_count(log) <= k {
                 return Source::Refused(Refusal::BadQuestion);
             }
             match source_record(log, k) {
                 Found::At(e) => Source::Of(record_at(log, e).transaction),
-                Found::Nothing => Source::Nothing,
+                Found::None => Source::None,
             }
         }
     }

@@ -1,11 +1,11 @@
 -- Laws of the sets of numbers below 64: a bit of 0, of an or and of a power of two. Assumes nothing.
-use Prim.Native.Nat.{ℕ, zero, suc, _+_, _*_, _-_, _<_, _≤_, _/_, _%_, _^_, max}
+use Prim.Native.Nat.{ℕ, zero, suc, _+_, _-_, _<_, _/_, _%_, _^_, max}
 use native.Mathlib.Nat.{zero-div, div-eq-of-lt, div-self, pow-suc, mul-mod-left}
 use native.Mathlib.Decide.{ℕ-discrete, decLt}
 use native.Mathlib.Omega.{arith}
 use mathlib.Core.Path.{_≡_, refl, sym, _∙_, ap}
 use mathlib.Core.List.{List}
-use mathlib.Core.Bool.{Bool, true, false, _&&_, _||_, true≢false}
+use mathlib.Core.Bool.{Bool, true, false, _&&_, _||_}
 use lib.Dec.{eqb}
 use lib.ListN.{length, getD, set}
 use lib.Seq.{getD-set-same, getD-set-other}
@@ -14,7 +14,7 @@ use lib.Bits.{bitOr, or-shr, or-step}
 use lib.Pow.{shr-shr, pow-lt, pow-add, pow-pos, shl-shr}
 use borrow.Author.Tests.{eq-eqb, ne-eqb, eqb-false}
 use Rattle.sets.specs.Bits.{has}
-use Rattle.sets.proofs.Truth.{and-always, and-nothing, or-nothing}
+use Rattle.sets.proofs.Truth.{clash, and-always, and-nothing, or-nothing}
 
 -- the larger of two binary digits is one too, and is 1 where one of them is
 larger-digit : (x y : ℕ) → x < 2 → y < 2 → max x y < 2
@@ -105,3 +105,20 @@ pub no-member : (x : ℕ) → ((i : ℕ) → has x i ≡ false) → x ≡ 0
 no-member =
     bin-ind (λ (x : ℕ). ((i : ℕ) → has x i ≡ false) → x ≡ 0) (λ h. refl)
     (λ n ih h. whole-zero n (ih (λ i. half-has n i ∙ h (suc i))) (h 0))
+
+-- two sets with the same members are one number
+halves : (x y : ℕ) → x / 2 ≡ y / 2 → has x 0 ≡ has y 0 → x ≡ y
+unfolding has
+halves x y e h = go (ℕ-discrete (x / 1 % 2) 1) (ℕ-discrete (y / 1 % 2) 1)
+  where
+    go : Dec (x / 1 % 2 ≡ 1) → Dec (y / 1 % 2 ≡ 1) → x ≡ y
+    go (yes p) (yes q) = omega arith
+    go (yes p) (no q) = absurd (clash (eqb (y / 1 % 2) 1) (sym h ∙ eq-eqb (x / 1 % 2) 1 p) (ne-eqb (y / 1 % 2) 1 q))
+    go (no p) (yes q) = absurd (clash (eqb (y / 1 % 2) 1) (eq-eqb (y / 1 % 2) 1 q) (sym h ∙ ne-eqb (x / 1 % 2) 1 p))
+    go (no p) (no q) = omega arith
+
+pub same-members : (x y : ℕ) → ((i : ℕ) → has x i ≡ has y i) → x ≡ y
+same-members =
+    bin-ind (λ (x : ℕ). (y : ℕ) → ((i : ℕ) → has x i ≡ has y i) → x ≡ y)
+    (λ y h. sym (no-member y (λ i. sym (h i) ∙ has-zero i)))
+    (λ n ih y h. halves n y (ih (y / 2) (λ i. half-has n i ∙ h (suc i) ∙ sym (half-has y i))) (h 0))

@@ -1,15 +1,15 @@
 -- Laws of the searches below n, each by going through the numbers one by one: what a hit and a miss say, how to show one, and
 -- the step from n to n + 1 that a counting loop takes. Assumes nothing.
-use Prim.Native.Nat.{ℕ, zero, suc, _+_, _<_, _≤_}
+use Prim.Native.Nat.{ℕ, zero, suc, _+_, _<_}
 use native.Mathlib.Numerals.{add-one}
 use native.Mathlib.Omega.{arith}
-use mathlib.Core.Path.{_≡_, refl, sym, _∙_, ap, ap₂}
+use mathlib.Core.Path.{_≡_, refl, sym, _∙_, ap}
 use mathlib.Core.Bool.{Bool, true, false, _||_, cond, true≢false}
 use mathlib.Core.Option.{Option, none, some}
 use mathlib.Core.Logic.{_⊎_, inl, inr, ⊎-elim}
 use native.Mathlib.Decide.{ℕ-discrete, decLt}
 use Rattle.sets.specs.Search.{some-below, first-below, last-below, or-else}
-use Rattle.sets.proofs.Truth.{either, clash, or-cases, or-false, or-left, or-right, same-test}
+use Rattle.sets.proofs.Truth.{either, clash, or-cases, or-false, or-left, or-right}
 
 -- a number below n + 1 is n or below n
 pub below-cases : (n e : ℕ) → e < suc n → (e < n) ⊎ (e ≡ n)
@@ -113,9 +113,6 @@ module _ (p : ℕ → Bool) where
       go (some j) (first-some m r f) =
           ap some (only-between j k (λ (w : j < k). clash (p j) r (h j w)) (λ (w : k < j). clash (p k) q (f k w)))
 
-  pub first-found : (n : ℕ) {k : ℕ} → first-below n p ≡ some k → First n (some k)
-  first-found n e = rw e at (first-view n)
-
   pub first-none-below : (n : ℕ) → first-below n p ≡ none → None n
   first-none-below n e = go (rw e at (first-view n))
     where
@@ -165,9 +162,3 @@ module _ (p : ℕ → Bool) where
 
   pub last-found : (n : ℕ) {k : ℕ} → last-below n p ≡ some k → Last n (some k)
   last-found n e = rw e at (last-view n)
-
--- two tests that agree below n find the same
-pub some-same : (p q : ℕ → Bool) (n : ℕ) → ((e : ℕ) → e < n → p e ≡ q e) → some-below n p ≡ some-below n q
-unfolding some-below
-some-same p q zero h = refl
-some-same p q (suc n) h = ap₂ _||_ (some-same p q n (λ e l. h e (omega arith))) (h n (omega arith))

@@ -1,7 +1,7 @@
 -- Searches among the numbers below n, by a test that says yes or no of each number. All definitions of "some", "first" and
 -- "last" in the crates above are one of these three.
 use Prim.Native.Nat.{ℕ, zero, suc}
-use mathlib.Core.Bool.{Bool, true, false, _||_, cond}
+use mathlib.Core.Bool.{Bool, false, _||_, cond}
 use mathlib.Core.Option.{Option, none, some}
 
 -- some number below n passes the test

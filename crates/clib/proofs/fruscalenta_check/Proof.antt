@@ -2,13 +2,9 @@
 use borrow.Author.Needs.{needs}
 use mathlib.Core.Path.{_∙_, sym, ap}
 use Rattle.log.specs.Numbers.{checked-says}
-use Rattle.clib.specs.Coded.{coded, passed-value}
+use Rattle.clib.specs.Coding.{coded, passed-value}
 use Rattle.clib.proofs.fruscalenta_check.Statement.{statement}
 use Rattle.clib.proofs.fruscalenta_check.Tie as tie
-use Rattle.clib.proofs.fruscalenta_check.Reads as reads
-use Rattle.clib.proofs.fruscalenta_check.Lts as lts
-use Rattle.clib.proofs.refused.Reads as refused-reads
-use Rattle.log.proofs.check.check.Reads as check-reads
 
 check-requires : tie.Need-check-requires
 check-requires c κs = search needs

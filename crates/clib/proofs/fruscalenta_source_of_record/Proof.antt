@@ -2,13 +2,9 @@
 use borrow.Author.Needs.{needs}
 use mathlib.Core.Path.{_∙_, sym, ap}
 use Rattle.log.specs.Numbers.{source-says}
-use Rattle.clib.specs.Coded.{coded, source-value}
+use Rattle.clib.specs.Coding.{coded, source-value}
 use Rattle.clib.proofs.fruscalenta_source_of_record.Statement.{statement}
 use Rattle.clib.proofs.fruscalenta_source_of_record.Tie as tie
-use Rattle.clib.proofs.fruscalenta_source_of_record.Reads as reads
-use Rattle.clib.proofs.fruscalenta_source_of_record.Lts as lts
-use Rattle.clib.proofs.refused.Reads as refused-reads
-use Rattle.log.proofs.source.source_of_record.Reads as source-of-record-reads
 
 source-of-record-requires : tie.Need-source-of-record-requires
 source-of-record-requires c κs = search needs

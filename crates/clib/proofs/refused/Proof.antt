@@ -1,13 +1,9 @@
 -- `clib::refused` meets its contract: the number and the place are the refusal's own. Assumes nothing.
 use borrow.Author.Needs.{needs}
 use mathlib.Core.Path.{ap₂}
-use Rattle.clib.specs.Coded.{coded-refusal}
+use Rattle.clib.specs.Coding.{coded-refusal}
 use Rattle.clib.proofs.refused.Statement.{statement}
 use Rattle.clib.proofs.refused.Tie as tie
-use Rattle.clib.proofs.refused.Reads as reads
-use Rattle.clib.proofs.refused.Lts as lts
-use Rattle.log.proofs.refusal.Refusal.number.Reads as number-reads
-use Rattle.log.proofs.refusal.Refusal.place.Reads as place-reads
 
 number-requires : tie.Need-number-requires
 number-requires c κs = search needs

@@ -7,46 +7,41 @@ use mathlib.Core.List.{List}
 use Prim.Native.Nat.{ℕ, _<_, _≤_, _-_, _*_}
 use denote.Ref.{now}
 use Rattle.log.specs.Answer.{passed}
-use Rattle.log.specs.Record.{InRange, items, sites, records, writes-copy, writes-item}
+use Rattle.log.specs.Record.{Within, items, sites, records, writes-copy, writes-item}
 use Rattle.log.specs.Refusal.{record-answer, records-answer}
 use Rattle.log.specs.Numbers.{checked-says}
-use Rattle.log.specs.Kept.{CopyWriters, ItemWriters, Ended, Firsts}
+use Rattle.log.specs.Kept.{KeptCopies, KeptItems, KeptCommits, KeptNames}
 use Rattle.log.proofs.Steps.{writers-start, ended-start, firsts-start}
-use Rattle.log.proofs.Passing.{in-range-passed}
+use Rattle.log.proofs.Ranges.{within-passed}
 use Rattle.log.proofs.Records.{no-records, one-more, content-refused, content-ends}
 use Rattle.log.proofs.check.content_answer.Statement.{statement}
 use Rattle.log.proofs.check.content_answer.Tie as tie
-use Rattle.log.proofs.check.content_answer.Reads as reads
-use Rattle.log.proofs.check.content_answer.Lts as lts
-use Rattle.log.proofs.check.end_answer.Reads as end-answer-reads
-use Rattle.log.proofs.check.record_answer.Reads as record-answer-reads
-use Rattle.log.proofs.kept.keep_commit.Reads as keep-commit-reads
-use Rattle.log.proofs.kept.keep_first.Reads as keep-first-reads
-use Rattle.log.proofs.kept.keep_write.Reads as keep-write-reads
 
 abbrev Inv-loop : tie.InvT-loop
 Inv-loop log copies₀ items₀ firsts₀ seen₀ ended₀ n k₀ copies items firsts seen ended k =
-    (k ≤ n) × (records-answer log k ≡ passed) × CopyWriters log k copies × ItemWriters log k items × Firsts log k seen firsts × Ended log k ended
+    (k ≤ n) × (records-answer log k ≡ passed) × KeptCopies log k copies × KeptItems log k items × KeptNames log k seen firsts × KeptCommits log k ended
 
 abbrev μ-loop : tie.MeasureT-loop
 μ-loop log copies₀ items₀ firsts₀ seen₀ ended₀ n k₀ copies items firsts seen ended k = n - k
 
+record-count-requires : tie.Need-record-count-requires Inv-loop μ-loop
+record-count-requires c κs = search needs
+
 loop-holds : tie.Need-loop-holds Inv-loop μ-loop
 loop-holds c =
-    let log = now (c .before .args .log) in
+    let log = now (c .before .before .args .log) in
     (omega arith, no-records log, writers-start log (writes-copy log) (items * sites), writers-start log (writes-item log) items, firsts-start log, ended-start log)
 
 -- in a turn
 module _ (c : tie.In-loop Inv-loop μ-loop) where
   abbrev log : List ℕ
-  log = now (c .before .before .before .args .log)
+  log = now (c .before .before .before .before .args .log)
 
   abbrev k : ℕ
   k = c .before .loop .k
 
   there : k < records log
-  unfolding records
-  there = c .loop-test .taken
+  there = rw (← c .before .before .record-count .ensures) (c .loop-test .taken)
 
 -- where record k has passed
 module _ (c : tie.After-enum-told2 Inv-loop μ-loop) where
@@ -56,8 +51,8 @@ module _ (c : tie.After-enum-told2 Inv-loop μ-loop) where
   passes : record-answer (log turn) (k turn) ≡ passed
   passes = sym (c .before .before .record-answer .ensures) ∙ ap checked-says (c .enum-told2 .given .1)
 
-  right : InRange (log turn) (k turn)
-  right = in-range-passed (log turn) (k turn) (there turn) passes
+  right : Within (log turn) (k turn)
+  right = within-passed (log turn) (k turn) (there turn) passes
 
 record-answer-requires : tie.Need-record-answer-requires Inv-loop μ-loop
 record-answer-requires c κs =
@@ -95,7 +90,8 @@ keep-commit-requires c κs =
     (right e, turn e .before .loop .inv .5)
 
 add-k : tie.Need-add-k Inv-loop μ-loop
-add-k c = let e = turn (c .before .before .before .before .before .before) in omega (arith, e .loop-test .taken, e .before .before .before .good)
+add-k c =
+    let e = turn (c .before .before .before .before .before .before) in omega (arith, e .loop-test .taken, e .before .before .record-count .ok)
 
 loop-less : tie.Need-loop-less Inv-loop μ-loop
 loop-less c = omega arith
@@ -116,9 +112,11 @@ loop-again c =
 
 -- after the last turn k is the number of records
 module _ (c : tie.After-loop Inv-loop μ-loop) where
-  at-end : c .before .loop .k ≡ records (now (c .before .before .before .args .log))
-  unfolding records
-  at-end = let inv = c .before .loop .inv .0 in omega arith
+  at-end : c .before .loop .k ≡ records (now (c .before .before .before .before .args .log))
+  at-end =
+      let inv = c .before .loop .inv .0 in
+      let n = c .before .before .record-count .ensures in
+      omega arith
 
 end-answer-requires : tie.Need-end-answer-requires Inv-loop μ-loop
 end-answer-requires c κs =
@@ -128,7 +126,7 @@ end-answer-requires c κs =
 returns-2 : tie.Need-returns-2 Inv-loop μ-loop
 returns-2 c =
     let e = c .before .before in
-    let log = now (e .before .before .before .args .log) in
+    let log = now (e .before .before .before .before .args .log) in
     c .end-answer .ensures ∙ sym (content-ends log (rw (← at-end e) (e .before .loop .inv .1)))
 
 pub content-answer-spec : {M : Type 1} → statement M
@@ -137,6 +135,7 @@ content-answer-spec =
     (tie.spec
     Inv-loop
     μ-loop
+    record-count-requires
     loop-holds
     record-answer-requires
     enum-told

@@ -1,11 +1,9 @@
 -- `log::check::end_answer` meets its contract: where the two sets are one nobody is left, and else the transactions are taken from
 -- the lowest. The invariant: each one below t has committed if it is named. Assumes nothing.
-use borrow.Author.Needs.{needs}
 use borrow.Author.Tests.{not-true, not-false}
 use native.Mathlib.Omega.{arith}
 use mathlib.Core.Path.{_≡_, _∙_, sym, ap, ap₂}
-use mathlib.Core.Bool.{Bool, true, false, not, _&&_}
-use mathlib.Core.List.{List}
+use mathlib.Core.Bool.{Bool, false, not, _&&_}
 use mathlib.Core.Logic.{⊎-elim}
 use Prim.Native.Nat.{ℕ, _<_, _≤_, _-_}
 use denote.Ref.{now}
@@ -16,9 +14,6 @@ use Rattle.log.specs.Refusal.{never-commits}
 use Rattle.log.proofs.Ends.{all-commit, never-kept, same-sets, open-at}
 use Rattle.log.proofs.check.end_answer.Statement.{statement}
 use Rattle.log.proofs.check.end_answer.Tie as tie
-use Rattle.log.proofs.check.end_answer.Reads as reads
-use Rattle.log.proofs.check.end_answer.Lts as lts
-use Rattle.sets.proofs.has_member.Reads as has-member-reads
 
 abbrev Inv-loop : tie.InvT-loop
 Inv-loop log seen ended firsts t₀ t = (t ≤ transactions) × ((e : ℕ) → e < t → never-commits log e ≡ false)
@@ -30,7 +25,7 @@ returns : tie.Need-returns Inv-loop μ-loop
 returns c =
     let s = c .before .before in
     sym (all-commit (now (s .args .log))
-    (λ t l. same-sets (now (s .args .log)) (s .args .seen) (s .args .ended) (now (s .args .firsts)) (s .pre .0) (s .pre .1) (c .if1 .taken) t))
+    (λ t l. same-sets (now (s .args .log)) (s .args .named) (s .args .committed) (now (s .args .firsts)) (s .pre .0) (s .pre .1) (c .if1 .taken) t))
 
 loop-holds : tie.Need-loop-holds Inv-loop μ-loop
 loop-holds c = (omega arith, none-zero (never-commits (now (c .before .before .args .log))))
@@ -52,7 +47,7 @@ returns-2 c =
     let e = c .before .before .before .before in
     let l = e .before .before in
     let s = l .before .before .before in
-    sym (open-at (now (s .args .log)) (s .args .seen) (s .args .ended) (now (s .args .firsts)) (s .pre .0) (s .pre .1) (l .loop .t) (omega arith)
+    sym (open-at (now (s .args .log)) (s .args .named) (s .args .committed) (now (s .args .firsts)) (s .pre .0) (s .pre .1) (l .loop .t) (omega arith)
     (l .loop .inv .1) (sym (e .has-member .ensures) ∙ c .before .before .before .if2 .taken)
     (sym (c .before .before .has-member2 .ensures) ∙ not-true _ (c .before .if3 .taken)))
 
@@ -69,9 +64,9 @@ passes c =
     let e = c .before in
     let l = e .before .before in
     let s = l .before .before .before in
-    sym (never-kept (now (s .args .log)) (s .args .seen) (s .args .ended) (now (s .args .firsts)) (s .pre .0) (s .pre .1) (l .loop .t))
+    sym (never-kept (now (s .args .log)) (s .args .named) (s .args .committed) (now (s .args .firsts)) (s .pre .0) (s .pre .1) (l .loop .t))
     ∙ ⊎-elim (λ w. ap₂ (λ (a b : Bool). a && not b) (sym (e .has-member .ensures) ∙ w .0 .taken) (sym (w .1 .ensures) ∙ not-false _ (w .2 .left)))
-    (λ w. ap (λ (a : Bool). a && not (has (s .args .ended) (l .loop .t))) (sym (e .has-member .ensures) ∙ w .left)) (c .if2 .came)
+    (λ w. ap (λ (a : Bool). a && not (has (s .args .committed) (l .loop .t))) (sym (e .has-member .ensures) ∙ w .left)) (c .if2 .came)
 
 loop-again : tie.Need-loop-again Inv-loop μ-loop
 loop-again c =

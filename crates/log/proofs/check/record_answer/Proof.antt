@@ -10,14 +10,9 @@ use Rattle.log.specs.Record.{kind, transaction, item, site}
 use Rattle.log.specs.Refusal.{form-answer, history-answer, record-answer}
 use Rattle.log.specs.Numbers.{checked-says}
 use Rattle.log.proofs.Answers.{passed-then, refused-then}
-use Rattle.log.proofs.Passing.{in-range-record}
+use Rattle.log.proofs.Ranges.{within-record}
 use Rattle.log.proofs.check.record_answer.Statement.{statement}
 use Rattle.log.proofs.check.record_answer.Tie as tie
-use Rattle.log.proofs.check.record_answer.Reads as reads
-use Rattle.log.proofs.check.record_answer.Lts as lts
-use Rattle.log.proofs.form.form_answer.Reads as form-answer-reads
-use Rattle.log.proofs.kept.history_answer.Reads as history-answer-reads
-use Rattle.log.proofs.record.record_at.Reads as record-at-reads
 
 -- where 4 and 5 have been tried
 module _ (c : tie.After-form-answer) where
@@ -61,7 +56,7 @@ history-answer-requires : tie.Need-history-answer-requires
 history-answer-requires c κs =
     let e = c .before .before in
     let s = e .before .before .before in
-    (in-range-record (log e) (k e) (s .pre .0) (formed c), (s .pre .1 .0, (s .pre .1 .1 .0, s .pre .1 .1 .1)))
+    (within-record (log e) (k e) (s .pre .0) (formed c), (s .pre .1 .0, (s .pre .1 .1 .0, s .pre .1 .1 .1)))
 
 returns-2 : tie.Need-returns-2
 unfolding record-answer

@@ -2,14 +2,10 @@
 -- own tests answer them. Assumes nothing.
 use borrow.Author.Needs.{needs}
 use borrow.Author.Tests.{lt-ltb, le-ltb, eq-eqb, ne-eqb}
-use mathlib.Core.Path.{_≡_, _∙_, sym}
 use native.Mathlib.Omega.{arith}
 use Rattle.log.proofs.Forms.{access-form, commit-form, no-form}
 use Rattle.log.proofs.form.form_answer.Statement.{statement}
 use Rattle.log.proofs.form.form_answer.Tie as tie
-use Rattle.log.proofs.form.form_answer.Reads as reads
-use Rattle.log.proofs.form.form_answer.Lts as lts
-use Rattle.log.proofs.form.transaction_form.Reads as transaction-form-reads
 
 transaction-form-requires : tie.Need-transaction-form-requires
 transaction-form-requires c κs = search needs
@@ -38,37 +34,36 @@ returns-3 c =
 -- a read or a write
 returns-4 : tie.Need-returns-4
 returns-4 c =
-    let e = c .before .before .before .before in
-    let a = e .before .args in
-    rw (access-form (a .k) (a .kind) (a .transaction) (a .item) (a .site) (e .match .rest .1) (c .before .before .before .if1 .taken))
-    (simp (lt-ltb _ _ (c .before .before .if2 .taken), lt-ltb _ _ (c .before .if3 .taken)) (c .transaction-form2 .ensures))
+    let e = c .before .before .before in
+    let a = e .before .before .before .args in
+    rw (access-form (a .k) (a .kind) (a .transaction) (a .item) (a .site) (e .before .if1 .left) (e .if2 .taken))
+    (simp (lt-ltb _ _ (c .before .before .if3 .taken), lt-ltb _ _ (c .before .if4 .taken)) (c .transaction-form2 .ensures))
 
 returns-5 : tie.Need-returns-5
 returns-5 c =
-    let e = c .before .before .before in
-    let a = e .before .args in
-    rw (access-form (a .k) (a .kind) (a .transaction) (a .item) (a .site) (e .match .rest .1) (c .before .before .if1 .taken))
-    (simp (lt-ltb _ _ (c .before .if2 .taken), le-ltb _ _ (c .if3 .left)))
+    let e = c .before .before in
+    let a = e .before .before .before .args in
+    rw (access-form (a .k) (a .kind) (a .transaction) (a .item) (a .site) (e .before .if1 .left) (e .if2 .taken))
+    (simp (lt-ltb _ _ (c .before .if3 .taken), le-ltb _ _ (c .if4 .left)))
 
 returns-6 : tie.Need-returns-6
 returns-6 c =
-    let e = c .before .before in
-    let a = e .before .args in
-    rw (access-form (a .k) (a .kind) (a .transaction) (a .item) (a .site) (e .match .rest .1) (c .before .if1 .taken))
-    (simp (le-ltb _ _ (c .if2 .left)))
+    let e = c .before in
+    let a = e .before .before .before .args in
+    rw (access-form (a .k) (a .kind) (a .transaction) (a .item) (a .site) (e .before .if1 .left) (e .if2 .taken))
+    (simp (le-ltb _ _ (c .if3 .left)))
 
 -- neither
 returns-7 : tie.Need-returns-7
 returns-7 c =
-    let a = c .before .args in
-    let zero : a .kind ≡ 0 = c .match .keys2 in
+    let a = c .before .before .args in
     rw (no-form (a .k) (a .kind) (a .transaction) (a .item) (a .site) (λ e. omega arith) (λ e. omega arith) (λ e. omega arith))
 
 returns-8 : tie.Need-returns-8
 returns-8 c =
-    let e = c .before in
+    let e = c .before .before in
     let a = e .before .args in
-    rw (no-form (a .k) (a .kind) (a .transaction) (a .item) (a .site) (λ q. omega arith) (λ q. omega arith) (e .match .rest .0 .1))
+    rw (no-form (a .k) (a .kind) (a .transaction) (a .item) (a .site) (λ q. omega arith) (λ q. omega arith) (e .match .rest .1))
 
 pub form-answer-spec : {M : Type 1} → statement M
 form-answer-spec =

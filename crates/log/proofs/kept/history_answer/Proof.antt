@@ -2,7 +2,6 @@
 -- Assumes nothing.
 use borrow.Author.Needs.{needs}
 use mathlib.Core.Path.{_≡_, _∙_, sym}
-use mathlib.Core.Bool.{false}
 use mathlib.Core.List.{List}
 use Prim.Native.Nat.{ℕ}
 use denote.Ref.{now}
@@ -11,12 +10,6 @@ use Rattle.log.proofs.KindBytes.{a-read, no-read}
 use Rattle.log.proofs.Histories.{gives-6, skips-6, after-kept, other-passes}
 use Rattle.log.proofs.kept.history_answer.Statement.{statement}
 use Rattle.log.proofs.kept.history_answer.Tie as tie
-use Rattle.log.proofs.kept.history_answer.Reads as reads
-use Rattle.log.proofs.kept.history_answer.Lts as lts
-use Rattle.log.proofs.kept.read_answer.Reads as read-answer-reads
-use Rattle.log.proofs.record.kind_at.Reads as kind-at-reads
-use Rattle.log.proofs.record.transaction_at.Reads as transaction-at-reads
-use Rattle.sets.proofs.has_member.Reads as has-member-reads
 
 -- where number 6 has been tried
 module _ (c : tie.After-has-member) where
@@ -30,7 +23,7 @@ module _ (c : tie.After-has-member) where
   said-6 =
       let s = c .before .before .before in
       c .has-member .ensures
-      ∙ after-kept log k (s .args .ended) (c .before .transaction-at .result) (s .pre .1 .1 .1) (c .before .transaction-at .ensures .0)
+      ∙ after-kept log k (s .args .committed) (c .before .transaction-at .result) (s .pre .1 .1 .1) (c .before .transaction-at .ensures .0)
 
 transaction-at-requires : tie.Need-transaction-at-requires
 transaction-at-requires c κs = search needs

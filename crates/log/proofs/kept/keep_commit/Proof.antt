@@ -1,16 +1,11 @@
 -- `log::kept::keep_commit` meets its contract: a commit adds its transaction, and no other record does. Assumes nothing.
 use borrow.Author.Needs.{needs}
-use mathlib.Core.Path.{_≡_, _∙_, sym}
+use mathlib.Core.Path.{_∙_, sym}
 use denote.Ref.{now}
 use Rattle.log.proofs.KindBytes.{a-commit, no-commit}
 use Rattle.log.proofs.Steps.{ended-add, ended-stay}
 use Rattle.log.proofs.kept.keep_commit.Statement.{statement}
 use Rattle.log.proofs.kept.keep_commit.Tie as tie
-use Rattle.log.proofs.kept.keep_commit.Reads as reads
-use Rattle.log.proofs.kept.keep_commit.Lts as lts
-use Rattle.log.proofs.record.kind_at.Reads as kind-at-reads
-use Rattle.log.proofs.record.transaction_at.Reads as transaction-at-reads
-use Rattle.sets.proofs.with_member.Reads as with-member-reads
 
 kind-at-requires : tie.Need-kind-at-requires
 kind-at-requires c κs = search needs
@@ -26,7 +21,7 @@ returns c =
     let e = c .before .before .before in
     let s = e .before .before in
     let log = now (s .args .log) in
-    ended-add log (s .args .k) (s .args .ended) (s .pre .1) (c .before .transaction-at .result) (c .with-member .result)
+    ended-add log (s .args .k) (s .args .committed) (s .pre .1) (c .before .transaction-at .result) (c .with-member .result)
     (a-commit log (s .args .k) (sym (e .kind-at .ensures) ∙ c .before .before .if1 .taken)) (c .before .transaction-at .ensures .0) (c .with-member .ensures)
 
 returns-2 : tie.Need-returns-2
@@ -34,7 +29,7 @@ returns-2 c =
     let e = c .before in
     let s = e .before .before in
     let log = now (s .args .log) in
-    ended-stay log (s .args .k) (s .args .ended) (s .pre .1) (no-commit log (s .args .k) (λ q. c .if1 .left (e .kind-at .ensures ∙ q)))
+    ended-stay log (s .args .k) (s .args .committed) (s .pre .1) (no-commit log (s .args .k) (λ q. c .if1 .left (e .kind-at .ensures ∙ q)))
 
 pub keep-commit-spec : {M : Type 1} → statement M
 keep-commit-spec =

@@ -1,27 +1,15 @@
 -- `log::kept::keep_write` meets its contract: a write adds its transaction to the sets of its copy and of its item, and no
 -- other record adds anything. Assumes nothing.
 use borrow.Author.Needs.{needs}
-use mathlib.Core.Path.{_≡_, _∙_, sym, ap}
-use Prim.Native.Nat.{ℕ, _*_, _<_}
-use native.Mathlib.Omega.{arith}
+use mathlib.Core.Path.{_∙_, sym, ap}
+use Prim.Native.Nat.{ℕ, _*_}
 use lib.Dec.{eqb}
 use denote.Ref.{now}
 use Rattle.log.specs.Record.{items, sites, writes-copy, writes-item}
 use Rattle.log.proofs.KindBytes.{a-write, no-write}
-use Rattle.log.proofs.Steps.{copy-low, writers-add, writers-stay, copy-writes, item-writes, copy-silent, item-silent}
+use Rattle.log.proofs.Steps.{writers-add, writers-stay, copy-writes, item-writes, copy-silent, item-silent}
 use Rattle.log.proofs.kept.keep_write.Statement.{statement}
 use Rattle.log.proofs.kept.keep_write.Tie as tie
-use Rattle.log.proofs.kept.keep_write.Reads as reads
-use Rattle.log.proofs.kept.keep_write.Lts as lts
-use Rattle.log.proofs.record.copy_at.Reads as copy-at-reads
-use Rattle.log.proofs.record.item_at.Reads as item-at-reads
-use Rattle.log.proofs.record.kind_at.Reads as kind-at-reads
-use Rattle.log.proofs.record.transaction_at.Reads as transaction-at-reads
-use Rattle.sets.proofs.with_member.Reads as with-member-reads
-
--- the copy has its place in the table
-low : (c : tie.After-copy-at) → c .copy-at .result < items * sites
-low c = let s = c .before .before .before .before .before in rw (c .copy-at .ensures) (copy-low (now (s .args .log)) (s .args .k) (s .pre .0))
 
 kind-at-requires : tie.Need-kind-at-requires
 kind-at-requires c κs = search needs
@@ -33,19 +21,19 @@ copy-at-requires : tie.Need-copy-at-requires
 copy-at-requires c κs = search needs
 
 mul-with-member : tie.Need-mul-with-member
-mul-with-member c = omega (arith, low c)
+mul-with-member c = search needs
 
 element-copy-out-with-member : tie.Need-element-copy-out-with-member
-element-copy-out-with-member c = low c
+element-copy-out-with-member c = search needs
 
 with-member-requires : tie.Need-with-member-requires
 with-member-requires c κs = search needs
 
-mul-copies : tie.Need-mul-copies
-mul-copies c = omega (arith, low (c .before .before))
+mul-copy-writers : tie.Need-mul-copy-writers
+mul-copy-writers c = search needs
 
-element-write-copies : tie.Need-element-write-copies
-element-write-copies c = low (c .before .before)
+element-write-copy-writers : tie.Need-element-write-copy-writers
+element-write-copy-writers c = search needs
 
 item-at-requires : tie.Need-item-at-requires
 item-at-requires c κs = search needs
@@ -59,11 +47,11 @@ element-copy-out-with-member-2 c = search needs
 with-member-requires-2 : tie.Need-with-member-requires-2
 with-member-requires-2 c κs = search needs
 
-mul-items : tie.Need-mul-items
-mul-items c = search needs
+mul-item-writers : tie.Need-mul-item-writers
+mul-item-writers c = search needs
 
-element-write-items : tie.Need-element-write-items
-element-write-items c = search needs
+element-write-item-writers : tie.Need-element-write-item-writers
+element-write-item-writers c = search needs
 
 returns : tie.Need-returns
 returns c =
@@ -77,10 +65,10 @@ returns c =
     let k = s .args .k in
     let t = at-transaction .transaction-at .result in
     let writes = a-write log k (sym (at-kind .kind-at .ensures) ∙ at-transaction .before .if1 .taken) in (
-      writers-add log (writes-copy log) (items * sites) k (now (s .args .copies)) (s .pre .1 .0) (at-copy .copy-at .result) t (at-store .with-member .result)
-          (low at-copy) (λ x. copy-writes log k writes x ∙ ap (λ (y : ℕ). eqb y x) (sym (at-copy .copy-at .ensures)))
+      writers-add log (writes-copy log) (items * sites) k (now (s .args .copy-writers)) (s .pre .1 .0) (at-copy .copy-at .result) t (at-store .with-member .result)
+          (at-copy .copy-at .ensures .1) (λ x. copy-writes log k writes x ∙ ap (λ (y : ℕ). eqb y x) (sym (at-copy .copy-at .ensures .0)))
           (at-transaction .transaction-at .ensures .0) (at-store .with-member .ensures),
-      writers-add log (writes-item log) items k (now (s .args .items)) (s .pre .1 .1) (at-item .item-at .result) t (c .with-member2 .result)
+      writers-add log (writes-item log) items k (now (s .args .item-writers)) (s .pre .1 .1) (at-item .item-at .result) t (c .with-member2 .result)
           (at-item .item-at .ensures .1) (λ x. item-writes log k writes x ∙ ap (λ (y : ℕ). eqb y x) (sym (at-item .item-at .ensures .0)))
           (at-transaction .transaction-at .ensures .0) (c .with-member2 .ensures),
     )
@@ -91,8 +79,8 @@ returns-2 c =
     let log = now (s .args .log) in
     let k = s .args .k in
     let silent = no-write log k (λ q. c .if1 .left (c .before .kind-at .ensures ∙ q)) in (
-      writers-stay log (writes-copy log) (items * sites) k (now (s .args .copies)) (s .pre .1 .0) (copy-silent log k silent),
-      writers-stay log (writes-item log) items k (now (s .args .items)) (s .pre .1 .1) (item-silent log k silent),
+      writers-stay log (writes-copy log) (items * sites) k (now (s .args .copy-writers)) (s .pre .1 .0) (copy-silent log k silent),
+      writers-stay log (writes-item log) items k (now (s .args .item-writers)) (s .pre .1 .1) (item-silent log k silent),
     )
 
 pub keep-write-spec : {M : Type 1} → statement M
@@ -105,13 +93,13 @@ keep-write-spec =
     mul-with-member
     element-copy-out-with-member
     with-member-requires
-    mul-copies
-    element-write-copies
+    mul-copy-writers
+    element-write-copy-writers
     item-at-requires
     mul-with-member-2
     element-copy-out-with-member-2
     with-member-requires-2
-    mul-items
-    element-write-items
+    mul-item-writers
+    element-write-item-writers
     returns
     returns-2)

@@ -5,24 +5,14 @@ use borrow.Author.Tests.{not-true, not-false}
 use mathlib.Core.Path.{_≡_, refl, _∙_, sym}
 use mathlib.Core.Bool.{Bool, true, false, not, _&&_}
 use mathlib.Core.List.{List}
-use Prim.Native.Nat.{ℕ, _*_, _<_}
-use native.Mathlib.Omega.{arith}
+use Prim.Native.Nat.{ℕ}
 use lib.ListN.{getD}
 use denote.Ref.{now}
 use Rattle.sets.specs.Bits.{has}
-use Rattle.log.specs.Refusal.{reads-unwritten, reads-past-own, read-answer}
-use Rattle.log.specs.Answer.{refused, passed}
-use Rattle.log.specs.Record.{items, sites}
-use Rattle.log.proofs.Steps.{copy-low}
+use Rattle.log.specs.Refusal.{reads-unwritten, reads-past-own}
 use Rattle.log.proofs.Histories.{gives-7, gives-8, gives-none, unwritten-kept, written-kept, past-kept}
 use Rattle.log.proofs.kept.read_answer.Statement.{statement}
 use Rattle.log.proofs.kept.read_answer.Tie as tie
-use Rattle.log.proofs.kept.read_answer.Reads as reads
-use Rattle.log.proofs.kept.read_answer.Lts as lts
-use Rattle.log.proofs.record.copy_at.Reads as copy-at-reads
-use Rattle.log.proofs.record.item_at.Reads as item-at-reads
-use Rattle.log.proofs.record.transaction_at.Reads as transaction-at-reads
-use Rattle.sets.proofs.has_member.Reads as has-member-reads
 
 -- where the record's numbers have been read
 module _ (c : tie.After-item-at) where
@@ -34,10 +24,10 @@ module _ (c : tie.After-item-at) where
 
   -- the sets that the code looks at
   abbrev copy-set : ℕ
-  copy-set = getD (now (c .before .before .before .before .args .copies)) (c .before .copy-at .result) 0
+  copy-set = getD (now (c .before .before .before .before .args .copy-writers)) (c .before .copy-at .result) 0
 
   abbrev item-set : ℕ
-  item-set = getD (now (c .before .before .before .before .args .items)) (c .item-at .result) 0
+  item-set = getD (now (c .before .before .before .before .args .item-writers)) (c .item-at .result) 0
 
   abbrev own : ℕ
   own = c .before .before .transaction-at .result
@@ -46,23 +36,19 @@ module _ (c : tie.After-item-at) where
   said-7 : copy-set ≡ 0 → reads-unwritten log k ≡ true
   said-7 =
       let s = c .before .before .before .before in
-      unwritten-kept log k (now (s .args .copies)) (c .before .copy-at .result) (s .pre .1 .1 .0) (c .before .copy-at .ensures) (s .pre .1 .0)
+      unwritten-kept log k (now (s .args .copy-writers)) (c .before .copy-at .result) (s .pre .1 .1 .0) (c .before .copy-at .ensures .0) (s .pre .1 .0)
 
   said-not-7 : (copy-set ≡ 0 → ⊥) → reads-unwritten log k ≡ false
   said-not-7 =
       let s = c .before .before .before .before in
-      written-kept log k (now (s .args .copies)) (c .before .copy-at .result) (s .pre .1 .1 .0) (c .before .copy-at .ensures) (s .pre .1 .0)
+      written-kept log k (now (s .args .copy-writers)) (c .before .copy-at .result) (s .pre .1 .1 .0) (c .before .copy-at .ensures .0) (s .pre .1 .0)
 
   said-8 : (a b : Bool) → has item-set own ≡ a → has copy-set own ≡ b → reads-past-own log k ≡ (a && not b)
   said-8 a b e f =
       let s = c .before .before .before .before in
       rw (← e, ← f)
-      (sym (past-kept log k (now (s .args .copies)) (c .before .copy-at .result) (s .pre .1 .1 .0) (c .before .copy-at .ensures) (s .pre .1 .0)
-      (now (s .args .items)) (c .item-at .result) own (s .pre .1 .1 .1) (c .item-at .ensures .0) (c .before .before .transaction-at .ensures .0)))
-
--- the copy has its place in the table
-low : (c : tie.After-item-at) → c .before .copy-at .result < items * sites
-low c = let s = c .before .before .before .before in rw (c .before .copy-at .ensures) (copy-low (now (s .args .log)) (s .args .k) (s .pre .0))
+      (sym (past-kept log k (now (s .args .copy-writers)) (c .before .copy-at .result) (s .pre .1 .1 .0) (c .before .copy-at .ensures .0) (s .pre .1 .0)
+      (now (s .args .item-writers)) (c .item-at .result) own (s .pre .1 .1 .1) (c .item-at .ensures .0) (c .before .before .transaction-at .ensures .0)))
 
 transaction-at-requires : tie.Need-transaction-at-requires
 transaction-at-requires c κs = search needs
@@ -74,10 +60,10 @@ item-at-requires : tie.Need-item-at-requires
 item-at-requires c κs = search needs
 
 mul-writers : tie.Need-mul-writers
-mul-writers c = omega (arith, low c)
+mul-writers c = search needs
 
 element-copy-out-writers : tie.Need-element-copy-out-writers
-element-copy-out-writers c = low c
+element-copy-out-writers c = search needs
 
 returns : tie.Need-returns
 returns c =

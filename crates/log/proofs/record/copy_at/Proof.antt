@@ -1,14 +1,10 @@
--- `log::record::copy_at` meets its contract: the number is made of the record's item and site. Assumes nothing.
+-- `log::record::copy_at` meets its contract: the number is made of the record's item and site, which are within their limits.
+-- Assumes nothing.
 use borrow.Author.Needs.{needs}
-use mathlib.Core.Path.{_≡_, _∙_, ap₂}
+use mathlib.Core.Path.{_∙_, ap₂}
 use Rattle.log.specs.Record.{copy-number, copy-of}
 use Rattle.log.proofs.record.copy_at.Statement.{statement}
 use Rattle.log.proofs.record.copy_at.Tie as tie
-use Rattle.log.proofs.record.copy_at.Reads as reads
-use Rattle.log.proofs.record.copy_at.Lts as lts
-use Rattle.log.proofs.record.Copy.new.Reads as new-reads
-use Rattle.log.proofs.record.Copy.number.Reads as number-reads
-use Rattle.log.proofs.record.record_at.Reads as record-at-reads
 
 record-at-requires : tie.Need-record-at-requires
 record-at-requires c κs = search needs
@@ -22,8 +18,10 @@ number-requires c κs = search needs
 returns : tie.Need-returns
 unfolding copy-of
 returns c =
-    let e = c .before .before in
-    c .number .ensures ∙ ap₂ copy-number (c .before .new .ensures .0 ∙ e .record-at .ensures .2) (c .before .new .ensures .1 ∙ e .record-at .ensures .3)
+    let e = c .before .before in (
+      c .number .ensures .0 ∙ ap₂ copy-number (c .before .new .ensures .0 ∙ e .record-at .ensures .2) (c .before .new .ensures .1 ∙ e .record-at .ensures .3),
+      c .number .ensures .1,
+    )
 
 pub copy-at-spec : {M : Type 1} → statement M
 copy-at-spec = tie.close (tie.spec record-at-requires new-requires number-requires returns)

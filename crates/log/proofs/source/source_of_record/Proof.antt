@@ -5,21 +5,16 @@ use native.Mathlib.Omega.{arith}
 use mathlib.Core.Path.{_≡_, _∙_, sym, ap}
 use mathlib.Core.List.{List}
 use mathlib.Core.Option.{Option, some, none}
-use Prim.Native.Nat.{ℕ, _<_, _≤_}
+use Prim.Native.Nat.{ℕ, _<_}
 use denote.Ref.{now}
-use Rattle.log.specs.Answer.{Answer, gives, passed}
-use Rattle.log.specs.Record.{records, transaction}
+use Rattle.log.specs.Answer.{gives, passed}
+use Rattle.log.specs.Record.{records}
 use Rattle.log.specs.Refusal.{check-answer}
 use Rattle.log.specs.Source.{source, its-transaction, source-answer}
 use Rattle.log.specs.Numbers.{checked-says, found-says}
 use Rattle.log.proofs.Sources.{sourced, asked-refused, asked-past, asked}
 use Rattle.log.proofs.source.source_of_record.Statement.{statement}
 use Rattle.log.proofs.source.source_of_record.Tie as tie
-use Rattle.log.proofs.source.source_of_record.Reads as reads
-use Rattle.log.proofs.source.source_of_record.Lts as lts
-use Rattle.log.proofs.check.check.Reads as check-reads
-use Rattle.log.proofs.record.record_at.Reads as record-at-reads
-use Rattle.log.proofs.source.source_record.Reads as source-record-reads
 
 -- where the log has passed
 module _ (c : tie.After-enum-told) where
@@ -33,17 +28,16 @@ module _ (c : tie.After-enum-told) where
   sound = sym (c .before .before .check .ensures) ∙ ap checked-says (c .enum-told .given .1)
 
 -- where record k is there
-there : (c : tie.Else1) → k (c .before) < records (log (c .before))
-unfolding records
-there c = c .if1 .left
+there : (c : tie.Else1) → k (c .before .before) < records (log (c .before .before))
+there c = rw (← c .before .record-count .ensures) (c .if1 .left)
 
 -- where the walk back has ended
 module _ (c : tie.After-source-record) where
   answered : (o : Option ℕ) → found-says (c .source-record .result) ≡ o
-      → gives (its-transaction (log (c .before .before)) o) ≡ source-answer (log (c .before .before)) (k (c .before .before))
+      → gives (its-transaction (log (c .before .before .before)) o) ≡ source-answer (log (c .before .before .before)) (k (c .before .before .before))
   unfolding source
   answered o e =
-      let f = c .before .before in
+      let f = c .before .before .before in
       ap (λ (x : Option ℕ). gives (its-transaction (log f) x)) (sym e ∙ c .source-record .ensures) ∙ sym (asked (log f) (k f) (sound f) (there (c .before)))
 
 check-requires : tie.Need-check-requires
@@ -55,12 +49,14 @@ enum-known-why c = search needs
 enum-told : tie.Need-enum-told
 enum-told c = search needs
 
+record-count-requires : tie.Need-record-count-requires
+record-count-requires c κs = search needs
+
 returns : tie.Need-returns
-unfolding records
-returns c = let e = c .before in sym (asked-past (log e) (k e) (sound e) (c .if1 .taken))
+returns c = let e = c .before .before in sym (asked-past (log e) (k e) (sound e) (rw (← c .before .record-count .ensures) (c .if1 .taken)))
 
 source-record-requires : tie.Need-source-record-requires
-source-record-requires c κs = there c
+source-record-requires c κs = (sound (c .before .before), there c)
 
 enum-known-e : tie.Need-enum-known-e
 enum-known-e c = search needs
@@ -68,7 +64,7 @@ enum-known-e c = search needs
 record-at-requires : tie.Need-record-at-requires
 record-at-requires c κs =
     let w = c .before .before .before in
-    let f = w .before .before in
+    let f = w .before .before .before in
     let s = sourced (log f) (k f) (c .before .e .given .0 .0) (sym (w .source-record .ensures) ∙ ap found-says (c .before .e .given .1)) in
     omega (arith, s .earlier, there (w .before))
 
@@ -97,6 +93,7 @@ source-of-record-spec =
     check-requires
     enum-known-why
     enum-told
+    record-count-requires
     returns
     source-record-requires
     enum-known-e

@@ -1,6 +1,5 @@
 -- `log::source::source_record` meets its contract. The invariant of the walk back: no record from e up to k writes the copy.
 -- Assumes nothing.
-use borrow.Author.Needs.{needs}
 use native.Mathlib.Omega.{arith}
 use mathlib.Core.Path.{_≡_, _∙_, sym}
 use mathlib.Core.Bool.{true, false}
@@ -8,13 +7,10 @@ use Prim.Native.Nat.{ℕ, _-_, _≤_, _<_}
 use denote.Ref.{now}
 use Rattle.log.specs.Record.{is-read}
 use Rattle.log.proofs.KindBytes.{a-read, no-read}
+use Rattle.log.proofs.Passed.{passed-within}
 use Rattle.log.proofs.Sources.{writes-it, source-other, source-found, source-missing, step-back}
 use Rattle.log.proofs.source.source_record.Statement.{statement}
 use Rattle.log.proofs.source.source_record.Tie as tie
-use Rattle.log.proofs.source.source_record.Reads as reads
-use Rattle.log.proofs.source.source_record.Lts as lts
-use Rattle.log.proofs.record.kind_at.Reads as kind-at-reads
-use Rattle.log.proofs.source.writes_copy_of.Reads as writes-copy-of-reads
 
 abbrev Inv-loop : tie.InvT-loop
 Inv-loop log k e₀ e = (e ≤ k) × ((i : ℕ) → e ≤ i → i < k → writes-it log k i ≡ false)
@@ -29,7 +25,7 @@ reads-it c =
     a-read (now (s .args .log)) (s .args .k) (sym (c .before .kind-at .ensures) ∙ c .if1 .left)
 
 kind-at-requires : tie.Need-kind-at-requires Inv-loop μ-loop
-kind-at-requires c κs = c .before .pre
+kind-at-requires c κs = c .before .pre .1
 
 returns : tie.Need-returns Inv-loop μ-loop
 returns c =
@@ -44,7 +40,10 @@ sub-e : tie.Need-sub-e Inv-loop μ-loop
 sub-e c = omega arith
 
 writes-copy-of-requires : tie.Need-writes-copy-of-requires Inv-loop μ-loop
-writes-copy-of-requires c κs = (omega arith, c .before .before .before .before .before .pre)
+writes-copy-of-requires c κs =
+    let s = c .before .before .before .before .before in
+    let log = now (s .args .log) in
+    (passed-within log (s .pre .0) (c .before .loop .e - 1) (omega (arith, s .pre .1)), passed-within log (s .pre .0) (s .args .k) (s .pre .1))
 
 returns-2 : tie.Need-returns-2 Inv-loop μ-loop
 returns-2 c =

@@ -1,7 +1,7 @@
 -- `log::source::writes_copy_of` meets its contract: only a write writes a copy, and it writes the one that it names.
 -- Assumes nothing.
 use borrow.Author.Needs.{needs}
-use mathlib.Core.Path.{_≡_, _∙_, sym, ap₂}
+use mathlib.Core.Path.{_∙_, sym, ap₂}
 use lib.Dec.{eqb}
 use denote.Ref.{now}
 use Rattle.log.specs.Record.{copy-of}
@@ -9,10 +9,6 @@ use Rattle.log.proofs.KindBytes.{a-write, no-write}
 use Rattle.log.proofs.Steps.{copy-writes, copy-silent}
 use Rattle.log.proofs.source.writes_copy_of.Statement.{statement}
 use Rattle.log.proofs.source.writes_copy_of.Tie as tie
-use Rattle.log.proofs.source.writes_copy_of.Reads as reads
-use Rattle.log.proofs.source.writes_copy_of.Lts as lts
-use Rattle.log.proofs.record.copy_at.Reads as copy-at-reads
-use Rattle.log.proofs.record.kind_at.Reads as kind-at-reads
 
 kind-at-requires : tie.Need-kind-at-requires
 kind-at-requires c κs = search needs
@@ -35,7 +31,7 @@ returns-2 c =
     let s = at-kind .before .before in
     let log = now (s .args .log) in
     let writes = a-write log (s .args .e) (sym (at-kind .kind-at .ensures) ∙ c .before .before .if1 .left) in
-    ap₂ eqb (c .before .copy-at .ensures) (c .copy-at2 .ensures) ∙ sym (copy-writes log (s .args .e) writes (copy-of log (s .args .k)))
+    ap₂ eqb (c .before .copy-at .ensures .0) (c .copy-at2 .ensures .0) ∙ sym (copy-writes log (s .args .e) writes (copy-of log (s .args .k)))
 
 pub writes-copy-of-spec : {M : Type 1} → statement M
 writes-copy-of-spec =

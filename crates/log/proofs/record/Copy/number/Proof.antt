@@ -1,5 +1,8 @@
--- `log::record::Copy::number` meets its contract: the code is the definition, and bytes are small. Assumes nothing.
+-- `log::record::Copy::number` meets its contract: the code is the definition, and an item and a site within their limits keep the
+-- number within its own. Assumes nothing.
 use borrow.Author.Needs.{needs}
+use native.Mathlib.Omega.{arith}
+use mathlib.Core.Path.{refl}
 use Rattle.log.specs.Record.{copy-number}
 use Rattle.log.proofs.record.Copy.number.Statement.{statement}
 use Rattle.log.proofs.record.Copy.number.Tie as tie
@@ -18,7 +21,7 @@ add-result c = search needs
 
 returns : tie.Need-returns
 unfolding copy-number
-returns c = search needs
+returns c = (refl, omega arith)
 
 pub number-spec : {M : Type 1} → statement M
 number-spec = tie.close (tie.spec cast-result mul-result cast-result-2 add-result returns)

@@ -1,14 +1,14 @@
 -- What a record has that passes: its numbers are in their ranges, and none of 6 to 8 applies. Assumes nothing.
 use Prim.Native.Nat.{ℕ, _<_}
 use native.Mathlib.Omega.{arith}
-use mathlib.Core.Path.{_≡_, refl, sym, _∙_, ap}
+use mathlib.Core.Path.{_≡_}
 use mathlib.Core.List.{List}
 use mathlib.Core.Bool.{Bool, true, false, not, _&&_, cond}
 use lib.Dec.{eqb, ltb}
 use borrow.Author.Tests.{ltb-true, eqb-true, not-false}
 use Rattle.sets.proofs.Truth.{and-left, and-right}
-use Rattle.log.specs.Answer.{Answer, passed, row, _then_}
-use Rattle.log.specs.Record.{InRange, transactions, items, sites, kind, transaction, item, site, records, commit-kind}
+use Rattle.log.specs.Answer.{passed, row}
+use Rattle.log.specs.Record.{Within, transactions, items, sites, kind, transaction, item, site, records, commit-kind}
 use Rattle.log.specs.Refusal.{known-kind, in-range, form-answer, history-answer, record-answer}
 use Rattle.log.proofs.Answers.{then-left, then-right, row-fails}
 
@@ -38,12 +38,12 @@ module _ (k b t x s : ℕ) (h : form-answer k b t x s ≡ passed) where
       )
 
 module _ (log : List ℕ) (k : ℕ) where
-  pub in-range-record : k < records log → form-answer k (kind log k) (transaction log k) (item log k) (site log k) ≡ passed → InRange log k
-  in-range-record l h =
+  pub within-record : k < records log → form-answer k (kind log k) (transaction log k) (item log k) (site log k) ≡ passed → Within log k
+  within-record l h =
       let low = form-low k (kind log k) (transaction log k) (item log k) (site log k) h in
-      record { there = l; transaction-low = low .0; item-low = low .1 .0; site-low = low .1 .1 }
+      record { there = l; transaction-within = low .0; item-within = low .1 .0; site-within = low .1 .1 }
 
-  pub in-range-passed : k < records log → record-answer log k ≡ passed → InRange log k
+  pub within-passed : k < records log → record-answer log k ≡ passed → Within log k
   unfolding record-answer
-  in-range-passed l h =
-      in-range-record l (then-left (form-answer k (kind log k) (transaction log k) (item log k) (site log k)) (history-answer log k) h)
+  within-passed l h =
+      within-record l (then-left (form-answer k (kind log k) (transaction log k) (item log k) (site log k)) (history-answer log k) h)

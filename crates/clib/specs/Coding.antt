@@ -1,17 +1,15 @@
 -- How document 01's answers stand in the three numbers of the C face: the refusal's number and place; or number 0, and then the value.
 use Prim.Native.Nat.{ℕ}
 use mathlib.Core.Option.{Option, none, some}
-use Rattle.log.specs.Answer.{Answer as Said, gives, refused}
-use Rattle.log.specs.Numbers.{number-of, place-of}
+use Rattle.log.specs.Answer.{Answer, gives, refused}
 use Rattle.log.specs.Record.{transactions}
-use Rattle.log.specs.declared.refusal.Refusal.{Refusal}
-use Rattle.clib.specs.declared.Answer.{Answer}
+use Rattle.clib.specs.declared.Coded.{Coded}
 
-abbrev pub coded-refusal : ℕ → ℕ → Answer
+abbrev pub coded-refusal : ℕ → ℕ → Coded
 coded-refusal n p = record { number = n; place = p; value = 0 }
 
 -- an answer whose value is a number by the rule given
-abbrev pub coded : {A : Type 0} → (A → ℕ) → Said A → Answer
+abbrev pub coded : {A : Type 0} → (A → ℕ) → Answer A → Coded
 coded value (gives a) = record { number = 0; place = 0; value = value a }
 coded value (refused n p) = coded-refusal n p
 
@@ -19,7 +17,7 @@ coded value (refused n p) = coded-refusal n p
 abbrev pub passed-value : Unit {0} → ℕ
 passed-value u = 0
 
--- a source has its transaction for a value, and "none" one past the highest
+-- a source has its transaction for a value, which is below 64 (`passed-source-low`), and "none" has 64
 abbrev pub source-value : Option ℕ → ℕ
 source-value (some t) = t
 source-value none = transactions

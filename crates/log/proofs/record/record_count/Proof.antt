@@ -1,0 +1,12 @@
+-- `log::record::record_count` meets its contract: the code is the definition. Assumes nothing.
+use borrow.Author.Needs.{needs}
+use Rattle.log.specs.Record.{records}
+use Rattle.log.proofs.record.record_count.Statement.{statement}
+use Rattle.log.proofs.record.record_count.Tie as tie
+
+returns : tie.Need-returns
+unfolding records
+returns c = search needs
+
+pub record-count-spec : {M : Type 1} → statement M
+record-count-spec = tie.close (tie.spec returns)
