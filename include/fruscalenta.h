@@ -10,10 +10,6 @@
 
 #ifdef __cplusplus
 extern "C" {
-#ifdef __cplusplus
-}
-#endif
-
 #endif
 
 /* An answer in numbers. Where number is 0 nothing was refused, and value is what was asked for. Else number and place are those

@@ -58,7 +58,7 @@ pub extern "C" fn fruscalenta_source_of_record(log: &[u8], k: usize) -> Coded
             place: 0,
             value: t as u64,
         },
-        Source::Nothing => Coded {
+        Source::None => Coded {
             number: 0,
             place: 0,
             value: NONE,
