@@ -30,3 +30,12 @@ passed-then a b e = rw e refl
 
 pub refused-then : (a b : Answer (Unit {0})) {n p : ℕ} → a ≡ refused n p → (a then b) ≡ a
 refused-then a b e = rw e refl
+
+-- the number and the place of a refusal
+abbrev pub said-number : {A : Type 0} → Answer A → ℕ
+said-number (gives a) = 0
+said-number (refused n p) = n
+
+abbrev pub said-place : {A : Type 0} → Answer A → ℕ
+said-place (gives a) = 0
+said-place (refused n p) = p

@@ -10,8 +10,10 @@ use Rattle.log.specs.Answer.{Answer, gives, refused}
 use Rattle.log.specs.Refusal.{check-answer}
 use Rattle.log.specs.Source.{source-record, source-answer}
 use Rattle.log.specs.Numbers.{number-of, place-of, checked-says, source-says, found-says}
+use Rattle.log.proofs.Answers.{said-number, said-place}
 use Rattle.log.specs.declared.refusal.Refusal.{Refusal}
-use Rattle.log.specs.declared.refusal.Refusal.the-variants.{TooLong, Ragged, ShortBuffer, BadKind, OutOfRange, AfterCommit, ReadsUnwritten, ReadsPastOwn, NeverCommits, BadQuestion}
+use Rattle.log.specs.declared.refusal.Refusal.the-variants.{TooLong, Ragged, ShortBuffer, BadKind, OutOfRange, AfterCommit}
+use Rattle.log.specs.declared.refusal.Refusal.the-variants.{ReadsUnwritten, ReadsPastOwn, NeverCommits, BadQuestion}
 use Rattle.log.specs.declared.refusal.Checked.{Checked}
 use Rattle.log.specs.declared.refusal.Checked.the-variants.{Passed, Refused}
 use Rattle.log.specs.declared.source.Found.{Found}
@@ -40,15 +42,6 @@ known BadQuestion = refl
 
 pub same-refusal : (r s : Refusal) → number-of r ≡ number-of s → place-of r ≡ place-of s → r ≡ s
 same-refusal r s n p = sym (known r) ∙ ap₂ refusal-of n p ∙ known s
-
--- what a refusal's answer holds
-abbrev said-number : {A : Type 0} → Answer A → ℕ
-said-number (gives a) = 0
-said-number (refused n p) = n
-
-abbrev said-place : {A : Type 0} → Answer A → ℕ
-said-place (gives a) = 0
-said-place (refused n p) = p
 
 no-zero : (r : Refusal) → number-of r ≡ 0 → ⊥
 no-zero TooLong e = omega arith

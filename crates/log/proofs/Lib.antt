@@ -10,3 +10,4 @@ pub mod Lengths
 pub mod Sources
 pub mod Determined
 pub mod Passed
+pub mod Given

@@ -15,8 +15,12 @@ use Rattle.sets.specs.Search.{first-below, last-below}
 use Rattle.sets.proofs.Truth.{clash, and-true, and-left, and-right, or-cases}
 use Rattle.sets.proofs.Searches.{some-found, some-hit, some-none, first-none-below, Last, last-none, last-view}
 use Rattle.log.specs.Answer.{Answer, passed, row}
-use Rattle.log.specs.Record.{Within, record-bytes, transactions, items, sites, most-records, most-bytes, kind, transaction, item, site, records, read-kind, write-kind, commit-kind, is-read, is-write, is-commit, copy-of, is-by, named, committed, wrote-copy, wrote-item, written, writes-copy, writes-item, copy-number, in-log}
-use Rattle.log.specs.Refusal.{too-long, ragged, known-kind, in-range, form-answer, after-commit, reads-unwritten, reads-past-own, read-answer, history-answer, record-answer, records-answer, never-commits, first-record, refused-9, end-answer, length-answer, content-answer, check-answer}
+use Rattle.log.specs.Record.{Within, record-bytes, transactions, items, sites, most-records, most-bytes, kind, transaction, item}
+use Rattle.log.specs.Record.{site, records, read-kind, write-kind, commit-kind, is-read, is-write, is-commit, copy-of, is-by}
+use Rattle.log.specs.Record.{named, committed, wrote-copy, wrote-item, written, writes-copy, writes-item, copy-number, in-log}
+use Rattle.log.specs.Refusal.{too-long, ragged, known-kind, in-range, form-answer, after-commit, reads-unwritten, reads-past-own}
+use Rattle.log.specs.Refusal.{read-answer, history-answer, record-answer, records-answer, never-commits, first-record, refused-9}
+use Rattle.log.specs.Refusal.{end-answer, length-answer, content-answer, check-answer}
 use Rattle.log.specs.Source.{source-record, its-transaction, source}
 use Rattle.log.proofs.Answers.{never-both, then-left, then-right, row-fails}
 use Rattle.log.proofs.Ranges.{form-known, form-in-range, within-record}

@@ -16,7 +16,8 @@ use Rattle.sets.specs.Bits.{has}
 use Rattle.sets.proofs.Truth.{clash, and-always, and-nothing, or-nothing}
 use Rattle.sets.proofs.Searches.{some-more, some-zero, none-some, first-hit, first-stays}
 use Rattle.sets.proofs.Members.{stored, has-zero}
-use Rattle.log.specs.Record.{transactions, transaction, item, copy-of, is-by, is-write, is-commit, writes-copy, writes-item, named, committed}
+use Rattle.log.specs.Record.{transactions, transaction, item, copy-of, is-by, is-write, is-commit, writes-copy, writes-item}
+use Rattle.log.specs.Record.{named, committed}
 use Rattle.log.specs.Kept.{KeptWriters, KeptCommits, KeptNames}
 
 module _ (log : List ℕ) (writes : ℕ → ℕ → Bool) (wide k : ℕ) (table : List ℕ) (w : KeptWriters log writes wide k table) where

@@ -4,7 +4,8 @@ use Prim.Native.Nat.{ℕ}
 use mathlib.Core.Option.{Option, none, some}
 use Rattle.log.specs.Answer.{Answer, gives, refused, passed}
 use Rattle.log.specs.declared.refusal.Refusal.{Refusal}
-use Rattle.log.specs.declared.refusal.Refusal.the-variants.{TooLong, Ragged, ShortBuffer, BadKind, OutOfRange, AfterCommit, ReadsUnwritten, ReadsPastOwn, NeverCommits, BadQuestion}
+use Rattle.log.specs.declared.refusal.Refusal.the-variants.{TooLong, Ragged, ShortBuffer, BadKind, OutOfRange, AfterCommit}
+use Rattle.log.specs.declared.refusal.Refusal.the-variants.{ReadsUnwritten, ReadsPastOwn, NeverCommits, BadQuestion}
 use Rattle.log.specs.declared.refusal.Checked.{Checked}
 use Rattle.log.specs.declared.refusal.Checked.the-variants.{Passed, Refused}
 use Rattle.log.specs.declared.source.Found.{Found}

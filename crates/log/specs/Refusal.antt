@@ -7,7 +7,9 @@ use lib.ListN.{length}
 use lib.Dec.{eqb, ltb}
 use Rattle.sets.specs.Search.{first-below}
 use Rattle.log.specs.Answer.{Answer, refused, passed, row, _then_}
-use Rattle.log.specs.Record.{record-bytes, transactions, items, sites, most-bytes, kind, transaction, item, site, records, read-kind, write-kind, commit-kind, is-read, copy-of, is-by, committed, wrote-copy, wrote-item, written, in-log}
+use Rattle.log.specs.Record.{record-bytes, transactions, items, sites, most-bytes, kind, transaction, item, site, records}
+use Rattle.log.specs.Record.{read-kind, write-kind, commit-kind, is-read, copy-of, is-by, committed, wrote-copy, wrote-item}
+use Rattle.log.specs.Record.{written, in-log}
 
 -- 1: "log longer than 16,384 bytes"
 unfoldable pub too-long : List ℕ → Bool
