@@ -28,8 +28,8 @@ else
         log=$(mktemp)
         echo "setting up Debian's tools for x86-64: this machine is $(uname -m)"
         # shellcheck disable=SC2086
-        if { dpkg --add-architecture amd64 && apt-get update -qq &&
-            DEBIAN_FRONTEND=noninteractive apt-get install -y -qq --no-install-recommends $x86_packages; } >"$log" 2>&1; then
+        if { dpkg --add-architecture amd64 && apt-get -o Acquire::Retries=3 update -qq &&
+            DEBIAN_FRONTEND=noninteractive apt-get -o Acquire::Retries=3 install -y -qq --no-install-recommends $x86_packages; } >"$log" 2>&1; then
             rm -f "$log"
             return 0
         fi
