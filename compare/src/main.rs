@@ -48,7 +48,9 @@ fn difference(log: &[u8], tally: &mut Tally) -> Option<String> {
         let expected = sources.at(log, k);
         let got = proved::source_of_record(log, k);
         if got != expected {
-            return Some(format!("source of record {k}: proved {got:?}, second {expected:?}"));
+            return Some(format!(
+                "source of record {k}: proved {got:?}, second {expected:?}"
+            ));
         }
         if sources.0.is_ok() {
             count_source(log, k, expected, tally);
@@ -84,10 +86,17 @@ fn compare_named(tally: &mut Tally) {
         } else {
             Some(format!("check: proved {got:?}, document 01 {stated:?}"))
         };
-        let verdict = if found.is_none() { "as stated" } else { "DIFFERENT" };
+        let verdict = if found.is_none() {
+            "as stated"
+        } else {
+            "DIFFERENT"
+        };
         match stated {
             Ok(()) => println!("named: {}: passes the checks, {verdict}", case.name),
-            Err(r) => println!("named: {}: refused {} {}, {verdict}", case.name, r.number, r.place),
+            Err(r) => println!(
+                "named: {}: refused {} {}, {verdict}",
+                case.name, r.number, r.place
+            ),
         }
         tally.log(case.name, &case.log, found);
     }
@@ -110,7 +119,11 @@ fn main() {
         println!("refusal {number} was never met, so it was not tried");
         tally.log("untried", &[], Some(format!("number {number}")));
     }
-    println!("{} passed, {} failed", tally.logs - tally.differing, tally.differing);
+    println!(
+        "{} passed, {} failed",
+        tally.logs - tally.differing,
+        tally.differing
+    );
     if tally.differing > 0 {
         std::process::exit(1);
     }
