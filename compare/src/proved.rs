@@ -13,31 +13,44 @@ struct Answer {
 /// `FRUSCALENTA_NONE`.
 const NONE: u64 = 64;
 
+/// No refusal of document 01's.
+const NO_ANSWER: Refusal = Refusal {
+    number: u32::MAX,
+    place: 0,
+};
+
 extern "C" {
     fn fruscalenta_check(log: *const u8, len: usize) -> Answer;
     fn fruscalenta_source_of_record(log: *const u8, len: usize, k: usize) -> Answer;
 }
 
-/// The value of an answer, or its refusal.
+/// The value of an answer, or its refusal. Three numbers that the header rules out show as a refusal that document 01 has not, so
+/// that each of the three is compared.
 fn value(answer: Answer) -> Result<u64, Refusal> {
-    if answer.number == 0 {
-        return Ok(answer.value);
+    match answer {
+        Answer {
+            number: 0,
+            place: 0,
+            value,
+        } => Ok(value),
+        Answer {
+            number,
+            place,
+            value: 0,
+        } if number != 0 => Err(Refusal {
+            number: number as u32,
+            place: place as usize,
+        }),
+        _ => Err(NO_ANSWER),
     }
-    Err(Refusal {
-        number: answer.number as u32,
-        place: answer.place as usize,
-    })
 }
 
-/// The proved check. A value other than 0 is no answer of the header's, and shows as refusal 0.
+/// The proved check.
 pub fn check(log: &[u8]) -> Result<(), Refusal> {
     // SAFETY: a slice is len readable bytes, which is all that the header asks.
     match value(unsafe { fruscalenta_check(log.as_ptr(), log.len()) })? {
         0 => Ok(()),
-        other => Err(Refusal {
-            number: 0,
-            place: other as usize,
-        }),
+        _ => Err(NO_ANSWER),
     }
 }
 

@@ -17,21 +17,21 @@ pub all-commit : (log : List ℕ) → ((t : ℕ) → t < transactions → never-
 unfolding end-answer
 all-commit log h = ap (refused-9 log) (first-miss (never-commits log) transactions h)
 
-module _ (log : List ℕ) (seen ended : ℕ) (firsts : List ℕ) (w : KeptNames log (records log) seen firsts) (v : KeptCommits log (records log) ended) where
-  pub never-kept : (t : ℕ) → (has seen t && not (has ended t)) ≡ never-commits log t
+module _ (log : List ℕ) (names commits : ℕ) (firsts : List ℕ) (w : KeptNames log (records log) names firsts) (v : KeptCommits log (records log) commits) where
+  pub never-kept : (t : ℕ) → (has names t && not (has commits t)) ≡ never-commits log t
   unfolding never-commits in-log
   never-kept t = ap₂ (λ (a b : Bool). a && not b) (w .said t) (v .said t)
 
   -- the two sets are one
-  pub same-sets : seen ≡ ended → (t : ℕ) → never-commits log t ≡ false
-  same-sets e t = sym (never-kept t) ∙ ap (λ (x : ℕ). has x t && not (has ended t)) e ∙ both (has ended t)
+  pub same-sets : names ≡ commits → (t : ℕ) → never-commits log t ≡ false
+  same-sets e t = sym (never-kept t) ∙ ap (λ (x : ℕ). has x t && not (has commits t)) e ∙ both (has commits t)
     where
       both : (b : Bool) → (b && not b) ≡ false
       both true = refl
       both false = refl
 
   -- t is the lowest that is left
-  pub open-at : (t : ℕ) → t < transactions → ((e : ℕ) → e < t → never-commits log e ≡ false) → has seen t ≡ true → has ended t ≡ false
+  pub open-at : (t : ℕ) → t < transactions → ((e : ℕ) → e < t → never-commits log e ≡ false) → has names t ≡ true → has commits t ≡ false
       → end-answer log ≡ refused 9 (getD firsts t 0)
   unfolding end-answer first-record
   open-at t l h a b =

@@ -39,18 +39,18 @@ module _ (log : List ℕ) (k : ℕ) where
   gives-none b d = rw (b, d) refl
 
   -- 6, from the set of those that have committed
-  pub after-kept : (ended t : ℕ) → KeptCommits log k ended → t ≡ transaction log k → has ended t ≡ after-commit log k
+  pub after-kept : (commits t : ℕ) → KeptCommits log k commits → t ≡ transaction log k → has commits t ≡ after-commit log k
   unfolding after-commit
-  after-kept ended t w e = w .said t ∙ ap (λ (x : ℕ). committed log x k) e
+  after-kept commits t w e = w .said t ∙ ap (λ (x : ℕ). committed log x k) e
 
   -- 7 and 8 are about reads
   pub other-passes : is-read log k ≡ false → read-answer log k ≡ passed
   unfolding read-answer reads-unwritten reads-past-own
   other-passes e = rw e refl
 
-  module _ (copies : List ℕ) (c : ℕ) (w : KeptCopies log k copies) (same : c ≡ copy-of log k) (r : is-read log k ≡ true) where
+  module _ (table : List ℕ) (c : ℕ) (w : KeptCopies log k table) (same : c ≡ copy-of log k) (r : is-read log k ≡ true) where
     -- 7: nobody has written the copy where its set is 0
-    pub unwritten-kept : getD copies c 0 ≡ 0 → reads-unwritten log k ≡ true
+    pub unwritten-kept : getD table c 0 ≡ 0 → reads-unwritten log k ≡ true
     unfolding reads-unwritten written is-by
     unwritten-kept z = rw (r, ← same, some-none (λ e. writes-copy log e c) k nobody) refl
       where
@@ -62,14 +62,14 @@ module _ (log : List ℕ) (k : ℕ) where
         nobody : (e : ℕ) → e < k → writes-copy log e c ≡ false
         nobody e l = rw (eq-eqb (transaction log e) (transaction log e) refl) at (own e l)
 
-    pub written-kept : (getD copies c 0 ≡ 0 → ⊥) → reads-unwritten log k ≡ false
+    pub written-kept : (getD table c 0 ≡ 0 → ⊥) → reads-unwritten log k ≡ false
     unfolding reads-unwritten written
     written-kept f =
         ⊎-elim (λ (t : some-below k (λ e. writes-copy log e c) ≡ true). rw (r, ← same, t) refl)
-        (λ (n : some-below k (λ e. writes-copy log e c) ≡ false). absurd (f (no-member (getD copies c 0) (nobody n))))
+        (λ (n : some-below k (λ e. writes-copy log e c) ≡ false). absurd (f (no-member (getD table c 0) (nobody n))))
         (either (some-below k (λ e. writes-copy log e c)))
       where
-        nobody : some-below k (λ e. writes-copy log e c) ≡ false → (i : ℕ) → has (getD copies c 0) i ≡ false
+        nobody : some-below k (λ e. writes-copy log e c) ≡ false → (i : ℕ) → has (getD table c 0) i ≡ false
         nobody n i =
             w .said c i
             ∙ some-none (λ e. is-by log e i && writes-copy log e c) k
@@ -77,6 +77,6 @@ module _ (log : List ℕ) (k : ℕ) where
 
     -- 8: the item's set has the transaction, and the copy's set has it not
     pub past-kept : (items : List ℕ) (x t : ℕ) → KeptItems log k items → x ≡ item log k → t ≡ transaction log k
-        → (has (getD items x 0) t && not (has (getD copies c 0) t)) ≡ reads-past-own log k
+        → (has (getD items x 0) t && not (has (getD table c 0) t)) ≡ reads-past-own log k
     unfolding reads-past-own wrote-item wrote-copy
     past-kept items x t v ex et = rw (r, v .said x t, w .said c t, ex, et, same) refl

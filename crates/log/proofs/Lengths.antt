@@ -1,4 +1,4 @@
--- Numbers 1 and 2, from the length, and that they come before all others. Assumes nothing.
+-- Numbers 1 and 2, from the length. Assumes nothing.
 use Prim.Native.Nat.{ℕ, _<_, _≤_, _%_}
 use mathlib.Core.Path.{_≡_, refl}
 use mathlib.Core.List.{List}

@@ -9,5 +9,5 @@ pub mod Records
 pub mod Lengths
 pub mod Sources
 pub mod Determined
+pub mod Table
 pub mod Passed
-pub mod Given

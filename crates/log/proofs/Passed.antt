@@ -1,138 +1,31 @@
 -- What a log has that passes the checks: the laws that the crates above go by, so that none of them opens a definition of this
 -- one. Each is what one number's absence says. Assumes nothing.
-use Prim.Native.Nat.{ℕ, zero, suc, _*_, _%_, _≤_, _<_}
+use Prim.Native.Nat.{ℕ, _*_, _%_, _≤_, _<_}
 use native.Mathlib.Omega.{arith}
 use native.Mathlib.Decide.{decLt}
-use mathlib.Core.Path.{_≡_, refl, ap}
+use mathlib.Core.Path.{_≡_, refl}
 use mathlib.Core.List.{List}
-use mathlib.Core.Bool.{true, false, _&&_, _||_, cond}
+use mathlib.Core.Bool.{true, _&&_, _||_, cond}
 use mathlib.Core.Option.{Option, none, some}
-use mathlib.Core.Logic.{_⊎_, inl, inr, ⊎-elim, _↔_}
+use mathlib.Core.Logic.{_⊎_, inl, inr, ⊎-elim}
 use lib.ListN.{length}
 use lib.Dec.{eqb, ltb}
 use borrow.Author.Tests.{ltb-false, eqb-true, eq-eqb, not-false}
-use Rattle.sets.specs.Search.{first-below, last-below}
+use Rattle.sets.specs.Search.{last-below}
 use Rattle.sets.proofs.Truth.{clash, and-true, and-left, and-right, or-cases}
-use Rattle.sets.proofs.Searches.{some-found, some-hit, some-none, first-none-below, Last, last-none, last-view}
-use Rattle.log.specs.Answer.{Answer, passed, row}
+use Rattle.sets.proofs.Searches.{some-found, some-hit, some-none, Last, last-none, last-view}
+use Rattle.log.specs.Answer.{passed}
 use Rattle.log.specs.Record.{Within, record-bytes, transactions, items, sites, most-records, most-bytes, kind, transaction, item}
 use Rattle.log.specs.Record.{site, records, read-kind, write-kind, commit-kind, is-read, is-write, is-commit, copy-of, is-by}
 use Rattle.log.specs.Record.{named, committed, wrote-copy, wrote-item, written, writes-copy, writes-item, copy-number, in-log}
-use Rattle.log.specs.Refusal.{too-long, ragged, known-kind, in-range, form-answer, after-commit, reads-unwritten, reads-past-own}
-use Rattle.log.specs.Refusal.{read-answer, history-answer, record-answer, records-answer, never-commits, first-record, refused-9}
-use Rattle.log.specs.Refusal.{end-answer, length-answer, content-answer, check-answer}
+use Rattle.log.specs.Refusal.{too-long, ragged, known-kind, in-range, after-commit, reads-unwritten, reads-past-own}
+use Rattle.log.specs.Refusal.{never-commits}
+use Rattle.log.specs.Refusal.{check-answer}
 use Rattle.log.specs.Source.{source-record, its-transaction, source}
-use Rattle.log.proofs.Answers.{never-both, then-left, then-right, row-fails}
-use Rattle.log.proofs.Ranges.{form-known, form-in-range, within-record}
+use Rattle.log.proofs.Ranges.{within-record}
 use Rattle.log.proofs.Records.{each-passes}
-use Rattle.log.proofs.Ends.{all-commit}
 use Rattle.log.proofs.Sources.{Sourced, sourced, writes-it}
-
-module _ (log : List ℕ) where
-  -- none of 1, 2 and 4 to 9 applies (3 and 10 are not about the log)
-  pub record NothingApplies : Type 0 where
-    pub no-1 : too-long log ≡ false
-    pub no-2 : ragged log ≡ false
-    pub no-4 : (k : ℕ) → k < records log → known-kind (kind log k) ≡ true
-    pub no-5 : (k : ℕ) → k < records log → in-range (kind log k) (transaction log k) (item log k) (site log k) ≡ true
-    pub no-6 : (k : ℕ) → k < records log → after-commit log k ≡ false
-    pub no-7 : (k : ℕ) → k < records log → reads-unwritten log k ≡ false
-    pub no-8 : (k : ℕ) → k < records log → reads-past-own log k ≡ false
-    pub no-9 : (t : ℕ) → t < transactions → never-commits log t ≡ false
-
-  -- the parts of a record's answer
-  abbrev form : ℕ → Answer (Unit {0})
-  form k = form-answer k (kind log k) (transaction log k) (item log k) (site log k)
-
-  form-passes : (k : ℕ) → record-answer log k ≡ passed → form k ≡ passed
-  unfolding record-answer
-  form-passes k h = then-left (form k) (history-answer log k) h
-
-  history-passes : (k : ℕ) → record-answer log k ≡ passed → history-answer log k ≡ passed
-  unfolding record-answer
-  history-passes k h = then-right (form k) (history-answer log k) h
-
-  not-6 : (k : ℕ) → history-answer log k ≡ passed → after-commit log k ≡ false
-  unfolding history-answer
-  not-6 k h = row-fails 6 (after-commit log k) k (then-left (row 6 (after-commit log k) k) (read-answer log k) h)
-
-  read-passes : (k : ℕ) → history-answer log k ≡ passed → read-answer log k ≡ passed
-  unfolding history-answer
-  read-passes k h = then-right (row 6 (after-commit log k) k) (read-answer log k) h
-
-  not-7 : (k : ℕ) → read-answer log k ≡ passed → reads-unwritten log k ≡ false
-  unfolding read-answer
-  not-7 k h = row-fails 7 (reads-unwritten log k) k (then-left (row 7 (reads-unwritten log k) k) (row 8 (reads-past-own log k) k) h)
-
-  not-8 : (k : ℕ) → read-answer log k ≡ passed → reads-past-own log k ≡ false
-  unfolding read-answer
-  not-8 k h = row-fails 8 (reads-past-own log k) k (then-right (row 7 (reads-unwritten log k) k) (row 8 (reads-past-own log k) k) h)
-
-  not-9 : end-answer log ≡ passed → (t : ℕ) → t < transactions → never-commits log t ≡ false
-  unfolding end-answer
-  not-9 h t l = go (first-below transactions (never-commits log)) refl h
-    where
-      go : (o : Option ℕ) → first-below transactions (never-commits log) ≡ o → refused-9 log o ≡ passed → never-commits log t ≡ false
-      go none e q = first-none-below (never-commits log) transactions e t l
-      go (some u) e q = absurd (never-both tt 9 (first-record log u) q)
-
-  lengths-pass : check-answer log ≡ passed → length-answer log ≡ passed
-  unfolding check-answer
-  lengths-pass h = then-left (length-answer log) (content-answer log) h
-
-  content-passes : check-answer log ≡ passed → content-answer log ≡ passed
-  unfolding check-answer
-  content-passes h = then-right (length-answer log) (content-answer log) h
-
-  records-pass : check-answer log ≡ passed → records-answer log (records log) ≡ passed
-  unfolding content-answer
-  records-pass h = then-left (records-answer log (records log)) (end-answer log) (content-passes h)
-
-  end-passes : check-answer log ≡ passed → end-answer log ≡ passed
-  unfolding content-answer
-  end-passes h = then-right (records-answer log (records log)) (end-answer log) (content-passes h)
-
-  not-1 : length-answer log ≡ passed → too-long log ≡ false
-  unfolding length-answer
-  not-1 h = row-fails 1 (too-long log) 0 (then-left (row 1 (too-long log) 0) (row 2 (ragged log) 0) h)
-
-  not-2 : length-answer log ≡ passed → ragged log ≡ false
-  unfolding length-answer
-  not-2 h = row-fails 2 (ragged log) 0 (then-right (row 1 (too-long log) 0) (row 2 (ragged log) 0) h)
-
-  -- and back
-  record-back : NothingApplies → (k : ℕ) → k < records log → record-answer log k ≡ passed
-  unfolding record-answer form-answer history-answer read-answer
-  record-back w k l = rw (w .no-4 k l, w .no-5 k l, w .no-6 k l, w .no-7 k l, w .no-8 k l) refl
-
-  records-back : NothingApplies → (n : ℕ) → n ≤ records log → records-answer log n ≡ passed
-  unfolding records-answer
-  records-back w zero l = refl
-  records-back w (suc n) l = rw (records-back w n (omega arith), record-back w n l) refl
-
-  check-back : NothingApplies → check-answer log ≡ passed
-  unfolding check-answer length-answer content-answer
-  check-back w = rw (w .no-1, w .no-2, records-back w (records log) (omega arith), all-commit log (w .no-9)) refl
-
-  pub nothing-applies : check-answer log ≡ passed → NothingApplies
-  nothing-applies h =
-      record {
-        no-1 = not-1 (lengths-pass h);
-        no-2 = not-2 (lengths-pass h);
-        no-4 = λ k l. form-known k (kind log k) (transaction log k) (item log k) (site log k) (form-passes k (each k l));
-        no-5 = λ k l. form-in-range k (kind log k) (transaction log k) (item log k) (site log k) (form-passes k (each k l));
-        no-6 = λ k l. not-6 k (history-passes k (each k l));
-        no-7 = λ k l. not-7 k (read-passes k (history-passes k (each k l)));
-        no-8 = λ k l. not-8 k (read-passes k (history-passes k (each k l)));
-        no-9 = not-9 (end-passes h);
-      }
-    where
-      each : (k : ℕ) → k < records log → record-answer log k ≡ passed
-      each k l = each-passes log (records log) k l (records-pass h)
-
-  -- THEOREM: a log passes exactly where no number applies
-  pub passes-exactly : check-answer log ≡ passed ↔ NothingApplies
-  passes-exactly = (nothing-applies, check-back)
+use Rattle.log.proofs.Table.{nothing-applies, form-passes, records-pass}
 
 -- what has happened before record k, as facts of single records
 module _ (log : List ℕ) where
@@ -190,6 +83,10 @@ pub record CommitOf (log : List ℕ) (t c : ℕ) : Type 0 where
   pub its-own : is-by log c t ≡ true
   pub commits : is-commit log c ≡ true
   pub last : (k : ℕ) → k < records log → is-by log k t ≡ true → k ≤ c
+
+-- and it is its only one
+pub commit-once : (log : List ℕ) (t c d : ℕ) → CommitOf log t c → CommitOf log t d → c ≡ d
+commit-once log t c d v w = let p = v .last d (w .there) (w .its-own) in let q = w .last c (v .there) (v .its-own) in omega arith
 
 module _ (log : List ℕ) (h : check-answer log ≡ passed) where
   -- the lengths
@@ -251,9 +148,6 @@ module _ (log : List ℕ) (h : check-answer log ≡ passed) where
       let w = committed-found log t (records log) some-commit in
       (w .0, commit-of t (w .0) (w .1) (and-left (is-by log (w .0) t) (is-commit log (w .0)) (w .2)) (and-right (is-by log (w .0) t) (is-commit log (w .0)) (w .2)))
 
-  pub commit-once : (t c d : ℕ) → CommitOf log t c → CommitOf log t d → c ≡ d
-  commit-once t c d v w = let p = v .last d (w .there) (w .its-own) in let q = w .last c (v .there) (v .its-own) in omega arith
-
   -- 7: a read has a source, which wrote the copy earlier with no write of the copy between
   pub passed-written : (k : ℕ) → k < records log → is-read log k ≡ true → written log (copy-of log k) k ≡ true
   unfolding reads-unwritten
@@ -269,10 +163,6 @@ module _ (log : List ℕ) (h : check-answer log ≡ passed) where
       go (some e) v q = let s : source-record log k ≡ some e = rw r q in (e, s, sourced log k e s)
 
   -- so its source is a transaction in the log
-  pub passed-source-of : (k e : ℕ) → source-record log k ≡ some e → source log k ≡ some (transaction log e)
-  unfolding source
-  passed-source-of k e h = ap (its-transaction log) h
-
   pub passed-source-low : (k t : ℕ) → k < records log → source log k ≡ some t → (in-log log t ≡ true) × (t < transactions)
   unfolding source
   passed-source-low k t l = go (source-record log k) refl

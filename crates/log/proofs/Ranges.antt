@@ -1,4 +1,4 @@
--- What a record has that passes: its numbers are in their ranges, and none of 6 to 8 applies. Assumes nothing.
+-- What a record has that passes 4 and 5: a known kind, and numbers within the limits. Assumes nothing.
 use Prim.Native.Nat.{ℕ, _<_}
 use native.Mathlib.Omega.{arith}
 use mathlib.Core.Path.{_≡_}
@@ -9,7 +9,7 @@ use borrow.Author.Tests.{ltb-true, eqb-true, not-false}
 use Rattle.sets.proofs.Truth.{and-left, and-right}
 use Rattle.log.specs.Answer.{passed, row}
 use Rattle.log.specs.Record.{Within, transactions, items, sites, kind, transaction, item, site, records, commit-kind}
-use Rattle.log.specs.Refusal.{known-kind, in-range, form-answer, history-answer, record-answer}
+use Rattle.log.specs.Refusal.{known-kind, in-range, form-answer, form-at, history-answer, record-answer}
 use Rattle.log.proofs.Answers.{then-left, then-right, row-fails}
 
 -- a commit's item and site are 0, so they are in range too
@@ -38,7 +38,7 @@ module _ (k b t x s : ℕ) (h : form-answer k b t x s ≡ passed) where
       )
 
 module _ (log : List ℕ) (k : ℕ) where
-  pub within-record : k < records log → form-answer k (kind log k) (transaction log k) (item log k) (site log k) ≡ passed → Within log k
+  pub within-record : k < records log → form-at log k ≡ passed → Within log k
   within-record l h =
       let low = form-low k (kind log k) (transaction log k) (item log k) (site log k) h in
       record { there = l; transaction-within = low .0; item-within = low .1 .0; site-within = low .1 .1 }
@@ -46,4 +46,4 @@ module _ (log : List ℕ) (k : ℕ) where
   pub within-passed : k < records log → record-answer log k ≡ passed → Within log k
   unfolding record-answer
   within-passed l h =
-      within-record l (then-left (form-answer k (kind log k) (transaction log k) (item log k) (site log k)) (history-answer log k) h)
+      within-record l (then-left (form-at log k) (history-answer log k) h)

@@ -10,9 +10,9 @@ use borrow.Author.Tests.{le-leb, lt-leb}
 use Rattle.sets.specs.Search.{last-below}
 use Rattle.sets.proofs.Searches.{last-hit, last-miss, last-found, Last, last-some}
 use Rattle.log.specs.Answer.{gives, refused, passed}
-use Rattle.log.specs.Record.{records, is-read, copy-of, writes-copy}
+use Rattle.log.specs.Record.{transaction, records, is-read, copy-of, writes-copy}
 use Rattle.log.specs.Refusal.{check-answer}
-use Rattle.log.specs.Source.{source-record, source, source-answer}
+use Rattle.log.specs.Source.{source-record, its-transaction, source, source-answer}
 
 module _ (log : List ℕ) (k : ℕ) where
   -- record e writes the copy of record k
@@ -58,6 +58,11 @@ module _ (log : List ℕ) (k : ℕ) where
       go : (b : Bool) → is-read log k ≡ b → cond b (last-below k writes-it) none ≡ some e → Sourced e
       go true r q = from r (last-found writes-it k q)
       go false r q = let z : _≡_ {A = ℕ} 0 1 = cc in absurd (omega arith)
+
+  -- the source is the transaction of the source record
+  pub source-of : (e : ℕ) → source-record log k ≡ some e → source log k ≡ some (transaction log e)
+  unfolding source
+  source-of e h = ap (its-transaction log) h
 
   -- the question
   pub asked-refused : {n p : ℕ} → check-answer log ≡ refused n p → source-answer log k ≡ refused n p

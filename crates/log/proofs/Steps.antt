@@ -80,19 +80,19 @@ module _ (log : List ℕ) (k : ℕ) where
   item-silent e x = rw e refl
 
 -- commits
-pub ended-start : (log : List ℕ) → KeptCommits log 0 0
+pub commits-start : (log : List ℕ) → KeptCommits log 0 0
 unfolding committed
-ended-start log = record { said = λ t. has-zero t ∙ sym (some-zero (λ e. is-by log e t && is-commit log e)) }
+commits-start log = record { said = λ t. has-zero t ∙ sym (some-zero (λ e. is-by log e t && is-commit log e)) }
 
-module _ (log : List ℕ) (k ended : ℕ) (w : KeptCommits log k ended) where
+module _ (log : List ℕ) (k commits : ℕ) (w : KeptCommits log k commits) where
   commits-more : (t : ℕ) → committed log t (k + 1) ≡ (committed log t k || (is-by log k t && is-commit log k))
   unfolding committed
   commits-more t = some-more (λ e. is-by log e t && is-commit log e) k
 
-  pub ended-add : (t v : ℕ) → is-commit log k ≡ true → t ≡ transaction log k → ((i : ℕ) → has v i ≡ (has ended i || eqb t i))
+  pub commits-add : (t v : ℕ) → is-commit log k ≡ true → t ≡ transaction log k → ((i : ℕ) → has v i ≡ (has commits i || eqb t i))
       → KeptCommits log (k + 1) v
   unfolding is-by
-  ended-add t v e q h =
+  commits-add t v e q h =
       record {
         said = λ i.
             h i
@@ -100,8 +100,8 @@ module _ (log : List ℕ) (k ended : ℕ) (w : KeptCommits log k ended) where
             ∙ sym (commits-more i);
       }
 
-  pub ended-stay : is-commit log k ≡ false → KeptCommits log (k + 1) ended
-  ended-stay e =
+  pub commits-stay : is-commit log k ≡ false → KeptCommits log (k + 1) commits
+  commits-stay e =
       record {
         said = λ t.
             w .said t
@@ -111,16 +111,16 @@ module _ (log : List ℕ) (k ended : ℕ) (w : KeptCommits log k ended) where
       }
 
 -- names
-pub firsts-start : (log : List ℕ) → KeptNames log 0 0 (replicate transactions 0)
+pub names-start : (log : List ℕ) → KeptNames log 0 0 (replicate transactions 0)
 unfolding named
-firsts-start log =
+names-start log =
     record {
       whole = length-replicate {A = ℕ} transactions 0;
       said = λ t. has-zero t ∙ sym (some-zero (λ e. is-by log e t));
       first = λ t h. absurd (clash (some-below 0 (λ e. is-by log e t)) h (some-zero (λ e. is-by log e t)));
     }
 
-module _ (log : List ℕ) (k seen : ℕ) (firsts : List ℕ) (w : KeptNames log k seen firsts) where
+module _ (log : List ℕ) (k names : ℕ) (firsts : List ℕ) (w : KeptNames log k names firsts) where
   names-more : (t : ℕ) → named log t (k + 1) ≡ (named log t k || is-by log k t)
   unfolding named
   names-more t = some-more (λ e. is-by log e t) k
@@ -129,9 +129,9 @@ module _ (log : List ℕ) (k seen : ℕ) (firsts : List ℕ) (w : KeptNames log 
   stays t h = first-stays (λ e. is-by log e t) k (getD firsts t 0) (w .first t h)
 
   -- a transaction that was named before
-  pub firsts-stay : (own : ℕ) → own ≡ transaction log k → has seen own ≡ true → KeptNames log (k + 1) seen firsts
+  pub names-stay : (own : ℕ) → own ≡ transaction log k → has names own ≡ true → KeptNames log (k + 1) names firsts
   unfolding is-by
-  firsts-stay own e h = record { whole = w .whole; said = λ t. w .said t ∙ sym (again t); first = λ t q. stays t (sym (again t) ∙ q) }
+  names-stay own e h = record { whole = w .whole; said = λ t. w .said t ∙ sym (again t); first = λ t q. stays t (sym (again t) ∙ q) }
     where
       again : (t : ℕ) → named log t (k + 1) ≡ named log t k
       again t = names-more t ∙ ap (λ (x : ℕ). named log t k || eqb x t) (sym e) ∙ go (ℕ-discrete own t)
@@ -141,10 +141,10 @@ module _ (log : List ℕ) (k seen : ℕ) (firsts : List ℕ) (w : KeptNames log 
           go (no q) = rw (ne-eqb own t q, or-nothing (named log t k)) refl
 
   -- a transaction that is named for the first time
-  pub firsts-add : (own v : ℕ) → own ≡ transaction log k → own < transactions → has seen own ≡ false
-      → ((t : ℕ) → has v t ≡ (has seen t || eqb own t)) → KeptNames log (k + 1) v (set firsts own k)
+  pub names-add : (own v : ℕ) → own ≡ transaction log k → own < transactions → has names own ≡ false
+      → ((t : ℕ) → has v t ≡ (has names t || eqb own t)) → KeptNames log (k + 1) v (set firsts own k)
   unfolding is-by named
-  firsts-add own v s l f h =
+  names-add own v s l f h =
       record {
         whole = simp length-set (w .whole);
         said = λ t. h t ∙ ap (λ (b : Bool). b || eqb own t) (w .said t) ∙ sym (more t);

@@ -32,6 +32,12 @@ in-range b t x s = cond (commit-kind b) (eqb x 0 && eqb s 0) (ltb x items && ltb
 unfoldable pub form-answer : (k b t x s : ℕ) → Answer (Unit {0})
 form-answer k b t x s = row 4 (not (known-kind b)) k then row 5 (not (in-range b t x s)) k
 
+abbrev pub in-range-at : List ℕ → ℕ → Bool
+in-range-at log k = in-range (kind log k) (transaction log k) (item log k) (site log k)
+
+abbrev pub form-at : List ℕ → ℕ → Answer (Unit {0})
+form-at log k = form-answer k (kind log k) (transaction log k) (item log k) (site log k)
+
 -- 6: "the transaction has committed earlier"
 unfoldable pub after-commit : List ℕ → ℕ → Bool
 after-commit log k = committed log (transaction log k) k
@@ -56,8 +62,7 @@ history-answer log k = row 6 (after-commit log k) k then read-answer log k
 
 -- "at each, 4 to 8 are tried in order, and the first that applies is the answer"
 unfoldable pub record-answer : List ℕ → ℕ → Answer (Unit {0})
-record-answer log k =
-    form-answer k (kind log k) (transaction log k) (item log k) (site log k) then history-answer log k
+record-answer log k = form-at log k then history-answer log k
 
 -- "records are taken from the first": the answer of the first n
 unfoldable pub records-answer : List ℕ → ℕ → Answer (Unit {0})

@@ -11,18 +11,18 @@ use Rattle.log.specs.Record.{Within, items, sites, records, writes-copy,
 use Rattle.log.specs.Refusal.{record-answer, records-answer}
 use Rattle.log.specs.Numbers.{checked-says}
 use Rattle.log.specs.Kept.{KeptCopies, KeptItems, KeptCommits, KeptNames}
-use Rattle.log.proofs.Steps.{writers-start, ended-start, firsts-start}
+use Rattle.log.proofs.Steps.{writers-start, commits-start, names-start}
 use Rattle.log.proofs.Ranges.{within-passed}
 use Rattle.log.proofs.Records.{no-records, one-more, content-refused, content-ends}
 use Rattle.log.proofs.check.content_answer.Statement.{statement}
 use Rattle.log.proofs.check.content_answer.Tie as tie
 
 abbrev Inv-loop : tie.InvT-loop
-Inv-loop log copies₀ items₀ firsts₀ seen₀ ended₀ n k₀ copies items firsts seen ended k =
-    (k ≤ n) × (records-answer log k ≡ passed) × KeptCopies log k copies × KeptItems log k items × KeptNames log k seen firsts × KeptCommits log k ended
+Inv-loop log copy-writers₀ item-writers₀ firsts₀ named₀ committed₀ n k₀ copy-writers item-writers firsts named committed k =
+    (k ≤ n) × (records-answer log k ≡ passed) × KeptCopies log k copy-writers × KeptItems log k item-writers × KeptNames log k named firsts × KeptCommits log k committed
 
 abbrev μ-loop : tie.MeasureT-loop
-μ-loop log copies₀ items₀ firsts₀ seen₀ ended₀ n k₀ copies items firsts seen ended k = n - k
+μ-loop log copy-writers₀ item-writers₀ firsts₀ named₀ committed₀ n k₀ copy-writers item-writers firsts named committed k = n - k
 
 record-count-requires : tie.Need-record-count-requires Inv-loop μ-loop
 record-count-requires c κs = search needs
@@ -30,7 +30,7 @@ record-count-requires c κs = search needs
 loop-holds : tie.Need-loop-holds Inv-loop μ-loop
 loop-holds c =
     let log = now (c .before .before .args .log) in
-    (omega arith, no-records log, writers-start log (writes-copy log) (items * sites), writers-start log (writes-item log) items, firsts-start log, ended-start log)
+    (omega arith, no-records log, writers-start log (writes-copy log) (items * sites), writers-start log (writes-item log) items, names-start log, commits-start log)
 
 -- in a turn
 module _ (c : tie.In-loop Inv-loop μ-loop) where

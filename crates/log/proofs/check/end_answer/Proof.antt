@@ -16,10 +16,10 @@ use Rattle.log.proofs.check.end_answer.Statement.{statement}
 use Rattle.log.proofs.check.end_answer.Tie as tie
 
 abbrev Inv-loop : tie.InvT-loop
-Inv-loop log seen ended firsts t₀ t = (t ≤ transactions) × ((e : ℕ) → e < t → never-commits log e ≡ false)
+Inv-loop log named committed firsts t₀ t = (t ≤ transactions) × ((e : ℕ) → e < t → never-commits log e ≡ false)
 
 abbrev μ-loop : tie.MeasureT-loop
-μ-loop log seen ended firsts t₀ t = transactions - t
+μ-loop log named committed firsts t₀ t = transactions - t
 
 returns : tie.Need-returns Inv-loop μ-loop
 returns c =

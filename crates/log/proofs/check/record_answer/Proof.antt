@@ -5,9 +5,8 @@ use mathlib.Core.Path.{_≡_, _∙_, sym, ap}
 use mathlib.Core.List.{List}
 use Prim.Native.Nat.{ℕ}
 use denote.Ref.{now}
-use Rattle.log.specs.Answer.{Answer, passed}
-use Rattle.log.specs.Record.{kind, transaction, item, site}
-use Rattle.log.specs.Refusal.{form-answer, history-answer, record-answer}
+use Rattle.log.specs.Answer.{passed}
+use Rattle.log.specs.Refusal.{form-answer, form-at, history-answer, record-answer}
 use Rattle.log.specs.Numbers.{checked-says}
 use Rattle.log.proofs.Answers.{passed-then, refused-then}
 use Rattle.log.proofs.Ranges.{within-record}
@@ -22,16 +21,13 @@ module _ (c : tie.After-form-answer) where
   abbrev k : ℕ
   k = c .before .before .before .args .k
 
-  abbrev form : Answer (Unit {0})
-  form = form-answer k (kind log k) (transaction log k) (item log k) (site log k)
-
-  said : checked-says (c .form-answer .result) ≡ form
+  said : checked-says (c .form-answer .result) ≡ form-at log k
   said =
       let r = c .before .record-at .ensures in
       c .form-answer .ensures ∙ (λ i. form-answer k (r .0 i) (r .1 i) (r .2 i) (r .3 i))
 
 -- and where the record has passed them
-formed : (c : tie.After-enum-told2) → form (c .before .before) ≡ passed
+formed : (c : tie.After-enum-told2) → form-at (log (c .before .before)) (k (c .before .before)) ≡ passed
 formed c = sym (said (c .before .before)) ∙ ap checked-says (c .enum-told2 .given .1)
 
 record-at-requires : tie.Need-record-at-requires
@@ -47,7 +43,7 @@ returns : tie.Need-returns
 unfolding record-answer
 returns c =
     let e = c .before .before in
-    said e ∙ sym (refused-then (form e) (history-answer (log e) (k e)) (sym (said e) ∙ ap checked-says (c .enum-told .given .1)))
+    said e ∙ sym (refused-then (form-at (log e) (k e)) (history-answer (log e) (k e)) (sym (said e) ∙ ap checked-says (c .enum-told .given .1)))
 
 enum-told-2 : tie.Need-enum-told-2
 enum-told-2 c = search needs
@@ -62,7 +58,7 @@ returns-2 : tie.Need-returns-2
 unfolding record-answer
 returns-2 c =
     let e = c .before .before .before in
-    c .history-answer .ensures ∙ sym (passed-then (form e) (history-answer (log e) (k e)) (formed (c .before)))
+    c .history-answer .ensures ∙ sym (passed-then (form-at (log e) (k e)) (history-answer (log e) (k e)) (formed (c .before)))
 
 pub record-answer-spec : {M : Type 1} → statement M
 record-answer-spec =

@@ -1,9 +1,10 @@
 -- `log::kept::keep_commit` meets its contract: a commit adds its transaction, and no other record does. Assumes nothing.
 use borrow.Author.Needs.{needs}
+use borrow.Author.Tests.{eq-eqb, ne-eqb}
 use mathlib.Core.Path.{_∙_, sym}
 use denote.Ref.{now}
-use Rattle.log.proofs.KindBytes.{a-commit, no-commit}
-use Rattle.log.proofs.Steps.{ended-add, ended-stay}
+use Rattle.log.proofs.KindBytes.{commit-byte}
+use Rattle.log.proofs.Steps.{commits-add, commits-stay}
 use Rattle.log.proofs.kept.keep_commit.Statement.{statement}
 use Rattle.log.proofs.kept.keep_commit.Tie as tie
 
@@ -21,15 +22,15 @@ returns c =
     let e = c .before .before .before in
     let s = e .before .before in
     let log = now (s .args .log) in
-    ended-add log (s .args .k) (s .args .committed) (s .pre .1) (c .before .transaction-at .result) (c .with-member .result)
-    (a-commit log (s .args .k) (sym (e .kind-at .ensures) ∙ c .before .before .if1 .taken)) (c .before .transaction-at .ensures .0) (c .with-member .ensures)
+    commits-add log (s .args .k) (s .args .committed) (s .pre .1) (c .before .transaction-at .result) (c .with-member .result)
+    ((commit-byte log (s .args .k) ∙ eq-eqb _ 3 (sym (e .kind-at .ensures) ∙ c .before .before .if1 .taken))) (c .before .transaction-at .ensures .0) (c .with-member .ensures)
 
 returns-2 : tie.Need-returns-2
 returns-2 c =
     let e = c .before in
     let s = e .before .before in
     let log = now (s .args .log) in
-    ended-stay log (s .args .k) (s .args .committed) (s .pre .1) (no-commit log (s .args .k) (λ q. c .if1 .left (e .kind-at .ensures ∙ q)))
+    commits-stay log (s .args .k) (s .args .committed) (s .pre .1) ((commit-byte log (s .args .k) ∙ ne-eqb _ 3 (λ q. c .if1 .left (e .kind-at .ensures ∙ q))))
 
 pub keep-commit-spec : {M : Type 1} → statement M
 keep-commit-spec =

@@ -2,7 +2,7 @@
 use borrow.Author.Needs.{needs}
 use mathlib.Core.Path.{_∙_, sym}
 use denote.Ref.{now}
-use Rattle.log.proofs.Steps.{firsts-add, firsts-stay}
+use Rattle.log.proofs.Steps.{names-add, names-stay}
 use Rattle.log.proofs.kept.keep_first.Statement.{statement}
 use Rattle.log.proofs.kept.keep_first.Tie as tie
 
@@ -16,7 +16,7 @@ returns : tie.Need-returns
 returns c =
     let e = c .before .before in
     let s = e .before .before in
-    firsts-stay (now (s .args .log)) (s .args .k) (s .args .named) (now (s .args .firsts)) (s .pre .1) (e .transaction-at .result)
+    names-stay (now (s .args .log)) (s .args .k) (s .args .named) (now (s .args .firsts)) (s .pre .1) (e .transaction-at .result)
     (e .transaction-at .ensures .0) (sym (c .before .has-member .ensures) ∙ c .if1 .taken)
 
 mul-firsts : tie.Need-mul-firsts
@@ -32,7 +32,7 @@ returns-2 : tie.Need-returns-2
 returns-2 c =
     let e = c .before .before .before in
     let s = e .before .before in
-    firsts-add (now (s .args .log)) (s .args .k) (s .args .named) (now (s .args .firsts)) (s .pre .1) (e .transaction-at .result) (c .with-member .result)
+    names-add (now (s .args .log)) (s .args .k) (s .args .named) (now (s .args .firsts)) (s .pre .1) (e .transaction-at .result) (c .with-member .result)
     (e .transaction-at .ensures .0) (e .transaction-at .ensures .1) (sym (c .before .before .has-member .ensures) ∙ c .before .if1 .left) (c .with-member .ensures)
 
 pub keep-first-spec : {M : Type 1} → statement M
