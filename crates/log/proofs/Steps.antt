@@ -13,9 +13,10 @@ use native.Mathlib.Decide.{ℕ-discrete, decLt}
 use borrow.Author.Tests.{eq-eqb, ne-eqb}
 use Rattle.sets.specs.Search.{some-below, first-below}
 use Rattle.sets.specs.Bits.{has}
-use Rattle.sets.proofs.Truth.{clash, and-always, and-nothing, or-nothing}
+use Rattle.sets.proofs.Truth.{clash, and-swap, and-always, and-nothing, or-nothing}
 use Rattle.sets.proofs.Searches.{some-more, some-zero, none-some, first-hit, first-stays}
-use Rattle.sets.proofs.Members.{stored, has-zero}
+use Rattle.sets.proofs.Members.{has-zero}
+use Rattle.sets.proofs.Tables.{holds-store, holds-same, holds-none}
 use Rattle.log.specs.Record.{transactions, transaction, item, copy-of, is-by, is-write, is-commit, writes-copy, writes-item}
 use Rattle.log.specs.Record.{named, committed}
 use Rattle.log.specs.Kept.{KeptWriters, KeptCommits, KeptNames}
@@ -26,40 +27,24 @@ module _ (log : List ℕ) (writes : ℕ → ℕ → Bool) (wide k : ℕ) (table 
       → ((i : ℕ) → has v i ≡ (has (getD table d 0) i || eqb t i)) → KeptWriters log writes wide (k + 1) (set table d v)
   unfolding is-by
   writers-add d t v l e q h =
-      record {
-        whole = simp length-set (w .whole);
-        said = λ c i.
-            stored table d v t (rw (w .whole) l) h c i
-            ∙ ap₂ _||_ (w .said c i) (ap₂ (λ (x : ℕ) (b : Bool). eqb x i && b) q (sym (e c)))
-            ∙ sym (some-more (λ j. is-by log j i && writes j c) k);
-      }
+      holds-store w d v (eqb t) l h
+      (λ c i.
+          some-more (λ j. is-by log j i && writes j c) k
+          ∙ ap (λ (b : Bool). some-below k (λ j. is-by log j i && writes j c) || b)
+            (ap₂ (λ (x : ℕ) (b : Bool). eqb x i && b) (sym q) (e c) ∙ and-swap (eqb t i) (eqb d c)))
 
   -- a record that writes nothing adds nothing
   pub writers-stay : ((c : ℕ) → writes k c ≡ false) → KeptWriters log writes wide (k + 1) table
   writers-stay e =
-      record {
-        whole = w .whole;
-        said = λ c t.
-            w .said c t
-            ∙ sym (some-more (λ i. is-by log i t && writes i c) k
-            ∙ ap (λ (b : Bool). some-below k (λ i. is-by log i t && writes i c) || b) (ap (λ (b : Bool). is-by log k t && b) (e c) ∙ and-nothing (is-by log k t))
-            ∙ or-nothing (some-below k (λ i. is-by log i t && writes i c)));
-      }
+      holds-same w
+      (λ c t.
+          sym (some-more (λ i. is-by log i t && writes i c) k
+          ∙ ap (λ (b : Bool). some-below k (λ i. is-by log i t && writes i c) || b) (ap (λ (b : Bool). is-by log k t && b) (e c) ∙ and-nothing (is-by log k t))
+          ∙ or-nothing (some-below k (λ i. is-by log i t && writes i c))))
 
 -- before the first record nothing is written
-zeros : (n c : ℕ) → getD {A = ℕ} (replicate n 0) c 0 ≡ 0
-zeros n c = go (decLt c n)
-  where
-    go : Dec (c < n) → getD {A = ℕ} (replicate n 0) c 0 ≡ 0
-    go (yes l) = getD-replicate n c 0 0 l
-    go (no l) = List·getD-eq-default (replicate n 0) 0 (simp length-replicate (omega arith))
-
 pub writers-start : (log : List ℕ) (writes : ℕ → ℕ → Bool) (wide : ℕ) → KeptWriters log writes wide 0 (replicate wide 0)
-writers-start log writes wide =
-    record {
-      whole = length-replicate {A = ℕ} wide 0;
-      said = λ c t. ap (λ (x : ℕ). has x t) (zeros wide c) ∙ has-zero t ∙ sym (some-zero (λ i. is-by log i t && writes i c));
-    }
+writers-start log writes wide = holds-none wide (λ c t. some-zero (λ i. is-by log i t && writes i c))
 
 module _ (log : List ℕ) (k : ℕ) where
   -- what a write writes, and that no other record writes

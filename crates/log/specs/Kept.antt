@@ -6,14 +6,13 @@ use mathlib.Core.Bool.{Bool, true, _&&_}
 use mathlib.Core.Option.{some}
 use lib.ListN.{length, getD}
 use Rattle.sets.specs.Search.{some-below, first-below}
-use Rattle.sets.specs.Bits.{has}
+use Rattle.sets.specs.Bits.{has, Holds}
 use Rattle.log.specs.Record.{transactions, items, sites, is-by, writes-copy, writes-item, named, committed}
 
 -- a table that has, for each copy or each item c, the set of the transactions with a record before k that writes c. It is said
 -- of every number c and t, so also that none past the table's end is written or writes.
-pub record KeptWriters (log : List ℕ) (writes : ℕ → ℕ → Bool) (wide k : ℕ) (table : List ℕ) : Type 0 where
-  pub whole : length table ≡ wide
-  pub said : (c t : ℕ) → has (getD table c 0) t ≡ some-below k (λ e. is-by log e t && writes e c)
+abbrev pub KeptWriters : List ℕ → (ℕ → ℕ → Bool) → (wide k : ℕ) → List ℕ → Type 0
+KeptWriters log writes wide k = Holds wide (λ c t. some-below k (λ e. is-by log e t && writes e c))
 
 abbrev pub KeptCopies : List ℕ → ℕ → List ℕ → Type 0
 KeptCopies log = KeptWriters log (writes-copy log) (items * sites)

@@ -1,3 +1,5 @@
 pub mod Truth
 pub mod Searches
+pub mod From
 pub mod Members
+pub mod Tables

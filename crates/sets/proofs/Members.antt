@@ -1,54 +1,67 @@
--- Laws of the sets of numbers below 64: a bit of 0, of an or and of a power of two. Assumes nothing.
-use Prim.Native.Nat.{ℕ, zero, suc, _+_, _-_, _<_, _/_, _%_, _^_, max}
-use native.Mathlib.Nat.{zero-div, div-eq-of-lt, div-self, pow-suc, mul-mod-left}
+-- Laws of the sets of numbers below 64: a bit of 0, of a power of two, of an or, an and, and a difference. Assumes nothing.
+use Prim.Native.Nat.{ℕ, zero, suc, _+_, _*_, _-_, _<_, _/_, _%_, _^_, max, min}
+use native.Mathlib.Nat.{zero-div, div-eq-of-lt, div-self, pow-suc, mul-mod-left, one-mul}
 use native.Mathlib.Decide.{ℕ-discrete, decLt}
 use native.Mathlib.Omega.{arith}
-use mathlib.Core.Path.{_≡_, refl, sym, _∙_, ap}
-use mathlib.Core.List.{List}
-use mathlib.Core.Bool.{Bool, true, false, _&&_, _||_}
+use mathlib.Core.Path.{_≡_, refl, sym, _∙_, ap, ap₂}
+use mathlib.Core.Bool.{Bool, true, false, not, _&&_, _||_}
 use lib.Dec.{eqb}
-use lib.ListN.{length, getD, set}
-use lib.Seq.{getD-set-same, getD-set-other}
 use lib.Arith.{digits-mod, bin-ind}
-use lib.Bits.{bitOr, or-shr, or-step}
-use lib.Pow.{shr-shr, pow-lt, pow-add, pow-pos, shl-shr}
+use lib.Bits.{bitOr, or-shr, or-step, bitAnd, and-shr, and-step, bitXor, differ, xor-shr, xor-step}
+use lib.Pow.{shr-shr, pow-lt, pow-add, pow-pos, shl-shr, shl-exact}
 use borrow.Author.Tests.{eq-eqb, ne-eqb, eqb-false}
 use Rattle.sets.specs.Bits.{has}
-use Rattle.sets.proofs.Truth.{clash, and-always, and-nothing, or-nothing}
+use Rattle.sets.proofs.Truth.{clash}
 
--- the larger of two binary digits is one too, and is 1 where one of them is
-larger-digit : (x y : ℕ) → x < 2 → y < 2 → max x y < 2
-larger-digit zero zero h k = omega arith
-larger-digit zero (suc zero) h k = omega arith
-larger-digit zero (suc (suc y)) h k = absurd (omega arith)
-larger-digit (suc zero) zero h k = omega arith
-larger-digit (suc zero) (suc zero) h k = omega arith
-larger-digit (suc zero) (suc (suc y)) h k = absurd (omega arith)
-larger-digit (suc (suc x)) y h k = absurd (omega arith)
-
-larger-is-one : (x y : ℕ) → x < 2 → y < 2 → eqb (max x y) 1 ≡ (eqb x 1 || eqb y 1)
-larger-is-one zero zero h k = refl
-larger-is-one zero (suc zero) h k = refl
-larger-is-one zero (suc (suc y)) h k = absurd (omega arith)
-larger-is-one (suc zero) zero h k = refl
-larger-is-one (suc zero) (suc zero) h k = refl
-larger-is-one (suc zero) (suc (suc y)) h k = absurd (omega arith)
-larger-is-one (suc (suc x)) y h k = absurd (omega arith)
+-- what holds of the four pairs of binary digits holds of any two
+digits : (P : ℕ → ℕ → Type 0) → P 0 0 → P 0 1 → P 1 0 → P 1 1 → (x y : ℕ) → x < 2 → y < 2 → P x y
+digits P a b c d zero zero h k = a
+digits P a b c d zero (suc zero) h k = b
+digits P a b c d (suc zero) zero h k = c
+digits P a b c d (suc zero) (suc zero) h k = d
+digits P a b c d zero (suc (suc y)) h k = absurd (omega arith)
+digits P a b c d (suc zero) (suc (suc y)) h k = absurd (omega arith)
+digits P a b c d (suc (suc x)) y h k = absurd (omega arith)
 
 digit-lt : (x : ℕ) → x % 2 < 2
 digit-lt x = omega arith
 
-or-digit : (a b : ℕ) → bitOr a b % 2 ≡ max (a % 2) (b % 2)
-or-digit a b =
-    ap (λ (x : ℕ). x % 2) (or-step a b)
-    ∙ digits-mod (bitOr (a / 2) (b / 2)) (larger-digit (a % 2) (b % 2) (digit-lt a) (digit-lt b))
+-- an operation that goes digit by digit
+module _
+    (op digit : ℕ → ℕ → ℕ) (test : Bool → Bool → Bool)
+    (shift : (a b i : ℕ) → op a b / 2 ^ i ≡ op (a / 2 ^ i) (b / 2 ^ i))
+    (step : (a b : ℕ) → op a b ≡ op (a / 2) (b / 2) * 2 + digit (a % 2) (b % 2))
+    (fits : (x y : ℕ) → x < 2 → y < 2 → (digit x y < 2) × (eqb (digit x y) 1 ≡ test (eqb x 1) (eqb y 1)))
+  where
+  has-op : (a b i : ℕ) → has (op a b) i ≡ test (has a i) (has b i)
+  unfolding has
+  has-op a b i =
+      let x = a / 2 ^ i in
+      let y = b / 2 ^ i in
+      let fit = fits (x % 2) (y % 2) (digit-lt x) (digit-lt y) in
+      ap (λ (z : ℕ). eqb (z % 2) 1) (shift a b i ∙ step x y)
+      ∙ ap (λ (z : ℕ). eqb z 1) (digits-mod (op (x / 2) (y / 2)) (fit .0))
+      ∙ fit .1
 
 pub has-or : (a b i : ℕ) → has (bitOr a b) i ≡ (has a i || has b i)
-unfolding has
-has-or a b i =
-    ap (λ (x : ℕ). eqb (x % 2) 1) (or-shr a b i)
-    ∙ ap (λ (x : ℕ). eqb x 1) (or-digit (a / 2 ^ i) (b / 2 ^ i))
-    ∙ larger-is-one (a / 2 ^ i % 2) (b / 2 ^ i % 2) (digit-lt (a / 2 ^ i)) (digit-lt (b / 2 ^ i))
+has-or =
+    has-op bitOr max _||_ or-shr or-step
+    (digits (λ x y. (max x y < 2) × (eqb (max x y) 1 ≡ (eqb x 1 || eqb y 1))) (omega arith, refl) (omega arith, refl) (omega arith, refl) (omega arith, refl))
+
+pub has-and : (a b i : ℕ) → has (bitAnd a b) i ≡ (has a i && has b i)
+has-and =
+    has-op bitAnd min _&&_ and-shr and-step
+    (digits (λ x y. (min x y < 2) × (eqb (min x y) 1 ≡ (eqb x 1 && eqb y 1))) (omega arith, refl) (omega arith, refl) (omega arith, refl) (omega arith, refl))
+
+-- one of the two and not the other
+differs : Bool → Bool → Bool
+differs a b = (a && not b) || (not a && b)
+
+has-xor : (a b i : ℕ) → has (bitXor a b) i ≡ differs (has a i) (has b i)
+unfolding differs
+has-xor =
+    has-op bitXor differ differs xor-shr xor-step
+    (digits (λ x y. (differ x y < 2) × (eqb (differ x y) 1 ≡ differs (eqb x 1) (eqb y 1))) (omega arith, refl) (omega arith, refl) (omega arith, refl) (omega arith, refl))
 
 pub has-zero : (i : ℕ) → has 0 i ≡ false
 unfolding has
@@ -77,20 +90,27 @@ has-power i j = go (ℕ-discrete i j) (decLt i j)
     go (no q) (no l) =
         ap (λ (x : ℕ). has (2 ^ x) j) (omega arith) ∙ power-above j (i - j - 1) ∙ sym (ne-eqb i j q)
 
+-- 1 shifted by i, as the machine computes it
+pub shifted : (i : ℕ) → i < 64 → 1 * 2 ^ i % 2 ^ 64 ≡ 2 ^ i
+shifted i h = shl-exact {a = 1} 1 i 64 (omega arith) (omega arith) ∙ one-mul (2 ^ i)
+
 -- the set with one number added
 pub has-with : (x i j : ℕ) → has (bitOr x (2 ^ i)) j ≡ (has x j || eqb i j)
 has-with x i j = has-or x (2 ^ i) j ∙ ap (λ (b : Bool). has x j || b) (has-power i j)
 
--- an entry of a table of sets, after t was added to the entry c: the old one, and t where the entry is c
-pub stored : (table : List ℕ) (c v t : ℕ) → c < length table → ((i : ℕ) → has v i ≡ (has (getD table c 0) i || eqb t i))
-    → (d i : ℕ) → has (getD (set table c v) d 0) i ≡ (has (getD table d 0) i || (eqb t i && eqb c d))
-stored table c v t l h d i = go (ℕ-discrete d c)
-  where
-    go : Dec (d ≡ c) → has (getD (set table c v) d 0) i ≡ (has (getD table d 0) i || (eqb t i && eqb c d))
-    go (yes q) =
-        rw (q, getD-set-same table c v 0 l, eq-eqb c c refl, and-always (eqb t i)) (h i)
-    go (no q) =
-        rw (getD-set-other table c d v 0 q, ne-eqb c d (λ e. q (sym e)), and-nothing (eqb t i), or-nothing (has (getD table d 0) i)) refl
+-- the set with one number taken out: added first, it is in both
+taken-out : (a b : Bool) → differs (a || b) b ≡ (a && not b)
+unfolding differs
+taken-out true true = refl
+taken-out true false = refl
+taken-out false true = refl
+taken-out false false = refl
+
+pub has-without : (x i j : ℕ) → has (bitXor (bitOr x (2 ^ i)) (2 ^ i)) j ≡ (has x j && not (eqb i j))
+has-without x i j =
+    has-xor (bitOr x (2 ^ i)) (2 ^ i) j
+    ∙ ap₂ differs (has-with x i j) (has-power i j)
+    ∙ taken-out (has x j) (eqb i j)
 
 -- a set without members is 0
 half-has : (x i : ℕ) → has (x / 2) i ≡ has x (suc i)

@@ -13,6 +13,12 @@ pub either : (b : Bool) → (b ≡ true) ⊎ (b ≡ false)
 either true = inl refl
 either false = inr refl
 
+-- two tests of which each holds where the other does
+pub same-truth : (a b : Bool) → (a ≡ true → b ≡ true) → (b ≡ true → a ≡ true) → a ≡ b
+same-truth true b f g = sym (f refl)
+same-truth false true f g = g refl
+same-truth false false f g = refl
+
 pub and-true : (a b : Bool) → a ≡ true → b ≡ true → (a && b) ≡ true
 and-true a b p q = simp (p, q)
 
@@ -23,6 +29,12 @@ and-left false b h = h
 pub and-right : (a b : Bool) → (a && b) ≡ true → b ≡ true
 and-right true b h = h
 and-right false b h = absurd (true≢false (sym h))
+
+pub and-swap : (a b : Bool) → (a && b) ≡ (b && a)
+and-swap true true = refl
+and-swap true false = refl
+and-swap false true = refl
+and-swap false false = refl
 
 pub or-false : (a b : Bool) → a ≡ false → b ≡ false → (a || b) ≡ false
 or-false a b p q = simp (p, q)
@@ -38,6 +50,13 @@ or-right false b h = h
 pub or-cases : (a b : Bool) → (a || b) ≡ true → (a ≡ true) ⊎ (b ≡ true)
 or-cases true b h = inl refl
 or-cases false b h = inr h
+
+pub or-hit-left : (a b : Bool) → a ≡ true → (a || b) ≡ true
+or-hit-left a b h = rw h refl
+
+pub or-hit-right : (a b : Bool) → b ≡ true → (a || b) ≡ true
+or-hit-right true b h = refl
+or-hit-right false b h = h
 
 pub or-nothing : (a : Bool) → (a || false) ≡ a
 or-nothing true = refl

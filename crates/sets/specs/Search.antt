@@ -1,13 +1,18 @@
 -- Searches among the numbers below n, by a test that says yes or no of each number. All definitions of "some", "first" and
--- "last" in the crates above are one of these three.
+-- "last" in the crates above are one of these.
 use Prim.Native.Nat.{ℕ, zero, suc}
-use mathlib.Core.Bool.{Bool, false, _||_, cond}
+use mathlib.Core.Bool.{Bool, false, _&&_, _||_, cond}
 use mathlib.Core.Option.{Option, none, some}
+use lib.Dec.{leb}
 
 -- some number below n passes the test
 unfoldable pub some-below : ℕ → (ℕ → Bool) → Bool
 some-below zero p = false
 some-below (suc n) p = some-below n p || p n
+
+-- some number below n, from k on, passes the test
+unfoldable pub some-from : ℕ → ℕ → (ℕ → Bool) → Bool
+some-from k n p = some-below n (λ e. leb k e && p e)
 
 -- the last number below n that passes the test, if there is one
 unfoldable pub last-below : ℕ → (ℕ → Bool) → Option ℕ

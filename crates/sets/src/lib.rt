@@ -1,6 +1,6 @@
 // Sets of numbers below 64, each as the bits of a u64.
 ghost use mathlib.Core.Path.{_≡_};
-ghost use mathlib.Core.Bool.{_||_};
+ghost use mathlib.Core.Bool.{_&&_, _||_, not};
 ghost use Prim.Native.Nat.{ℕ, _<_};
 ghost use lib.Dec.{eqb};
 ghost use Rattle.sets.specs.Bits.{has};
@@ -19,4 +19,27 @@ pub fn with_member(set: u64, i: usize) -> u64
     ensures { λ r. ⌜ ((j : ℕ) → has r j ≡ (has set j || eqb i j)) ⌝ }
 {
     set | (1 << i)
+}
+
+// The set without i.
+pub fn without_member(set: u64, i: usize) -> u64
+    requires { ⌜ i < 64 ⌝ }
+    ensures { λ r. ⌜ ((j : ℕ) → has r j ≡ (has set j && not (eqb i j))) ⌝ }
+{
+    let own: u64 = 1 << i;
+    (set | own) ^ own
+}
+
+// What is in one of the two sets, or in both.
+pub fn union(a: u64, b: u64) -> u64
+    ensures { λ r. ⌜ ((j : ℕ) → has r j ≡ (has a j || has b j)) ⌝ }
+{
+    a | b
+}
+
+// What is in both sets.
+pub fn common(a: u64, b: u64) -> u64
+    ensures { λ r. ⌜ ((j : ℕ) → has r j ≡ (has a j && has b j)) ⌝ }
+{
+    a & b
 }
