@@ -22,6 +22,7 @@ const NO_ANSWER: Refusal = Refusal {
 extern "C" {
     fn fruscalenta_check(log: *const u8, len: usize) -> Answer;
     fn fruscalenta_source_of_record(log: *const u8, len: usize, k: usize) -> Answer;
+    fn fruscalenta_edge_between(log: *const u8, len: usize, i: usize, j: usize) -> Answer;
 }
 
 /// The value of an answer, or its refusal. Three numbers that the header rules out show as a refusal that document 01 has not, so
@@ -38,11 +39,16 @@ fn value(answer: Answer) -> Result<u64, Refusal> {
             place,
             value: 0,
         } if number != 0 => Err(Refusal {
-            number: number as u32,
+            number: u32::try_from(number).unwrap_or(NO_ANSWER.number),
             place: place as usize,
         }),
         _ => Err(NO_ANSWER),
     }
+}
+
+/// A value that the header keeps below 256: one beyond shows as the refusal that document 01 has not, and not as its lowest byte.
+fn byte(value: u64) -> Result<u8, Refusal> {
+    u8::try_from(value).map_err(|_| NO_ANSWER)
 }
 
 /// The proved check.
@@ -59,6 +65,14 @@ pub fn source_of_record(log: &[u8], k: usize) -> Result<Option<u8>, Refusal> {
     // SAFETY: as above.
     match value(unsafe { fruscalenta_source_of_record(log.as_ptr(), log.len(), k) })? {
         NONE => Ok(None),
-        transaction => Ok(Some(transaction as u8)),
+        transaction => byte(transaction).map(Some),
     }
+}
+
+/// The proved answer to "edge from i to j".
+pub fn edge_between(log: &[u8], i: usize, j: usize) -> Result<u8, Refusal> {
+    // SAFETY: as above.
+    byte(value(unsafe {
+        fruscalenta_edge_between(log.as_ptr(), log.len(), i, j)
+    })?)
 }

@@ -9,16 +9,74 @@ const SHOWN: u64 = 10;
 /// One past the highest refusal number of document 01.
 const NUMBERS: usize = 11;
 
+/// One past the highest reason of an edge.
+const REASONS: usize = 4;
+
+/// How often the comparison met something, in words.
+struct Met(u64, String);
+
+/// The source questions of logs that pass, by their answers.
+#[derive(Default)]
+pub struct SourceTally {
+    pub other: u64,
+    pub own: u64,
+    pub none: u64,
+    pub past_the_end: u64,
+}
+
+impl SourceTally {
+    fn met(&self) -> Vec<Met> {
+        let asked = self.other + self.own + self.none + self.past_the_end;
+        vec![
+            Met(asked, "asked of logs that pass".to_string()),
+            Met(self.other, "of another transaction".to_string()),
+            Met(self.own, "own".to_string()),
+            Met(self.none, "none".to_string()),
+            Met(self.past_the_end, "refused 10".to_string()),
+        ]
+    }
+}
+
+/// The edge questions that both checkers answered: those of logs that do not pass, and those of logs that pass by their answers.
+#[derive(Default)]
+pub struct EdgeTally {
+    pub refused_log: u64,
+    pub above_63: u64,
+    pub not_in_the_log: u64,
+    pub itself: u64,
+    /// Of two transactions in the log, by the reason that is the answer: at 0 those without an edge.
+    pub lowest: [u64; REASONS],
+    /// Those of them to which no other reason applies. They are counted in `lowest` too.
+    pub alone: [u64; REASONS],
+}
+
+impl EdgeTally {
+    fn met(&self) -> Vec<Met> {
+        let apart = self.refused_log + self.above_63 + self.not_in_the_log + self.itself;
+        let asked = apart + self.lowest.iter().sum::<u64>();
+        let mut met = vec![
+            Met(asked, "asked".to_string()),
+            Met(self.refused_log, "of logs that do not pass".to_string()),
+            Met(self.above_63, "refused 10".to_string()),
+            Met(self.not_in_the_log, "not in the log".to_string()),
+            Met(self.itself, "to itself".to_string()),
+            Met(self.lowest[0], "no edge".to_string()),
+        ];
+        for reason in 1..REASONS {
+            met.push(Met(self.lowest[reason], format!("reason {reason}")));
+            met.push(Met(self.alone[reason], format!("reason {reason} alone")));
+        }
+        met
+    }
+}
+
 #[derive(Default)]
 pub struct Tally {
     pub logs: u64,
     pub differing: u64,
     pub checks: [u64; NUMBERS],
-    pub questions: u64,
-    pub no_source: u64,
-    pub own_source: u64,
-    pub other_source: u64,
-    pub past_the_end: u64,
+    pub sources: SourceTally,
+    pub edges: EdgeTally,
 }
 
 impl Tally {
@@ -39,28 +97,41 @@ impl Tally {
         }
     }
 
-    /// Prints the counts. A number that no log was refused by would be one that was never tried.
-    pub fn print(&self) {
-        println!("checks: {} passed", self.checks[0]);
+    fn met_by_checks(&self) -> Vec<Met> {
+        let mut met = vec![Met(self.checks[0], "passed".to_string())];
         for number in [1, 2, 4, 5, 6, 7, 8, 9] {
-            println!("checks: {} refused {number}", self.checks[number]);
+            met.push(Met(self.checks[number], format!("refused {number}")));
         }
-        println!(
-            "sources: {} asked of logs that pass: {} of another transaction, {} own, {} none, {} refused 10",
-            self.questions, self.other_source, self.own_source, self.no_source, self.past_the_end
-        );
+        met
     }
 
-    /// The numbers of document 01 that a check or a source question can give and that none gave.
-    pub fn untried(&self) -> Vec<usize> {
-        let mut untried = Vec::new();
-        for number in [1, 2, 4, 5, 6, 7, 8, 9] {
-            if self.checks[number] == 0 {
-                untried.push(number);
+    /// All that the comparison has to meet, by what was asked.
+    fn met(&self) -> [(&'static str, Vec<Met>); 3] {
+        [
+            ("checks", self.met_by_checks()),
+            ("sources", self.sources.met()),
+            ("edges", self.edges.met()),
+        ]
+    }
+
+    /// Prints the counts.
+    pub fn print(&self) {
+        for (question, met) in self.met() {
+            for Met(count, what) in met {
+                println!("{question}: {count} {what}");
             }
         }
-        if self.past_the_end == 0 {
-            untried.push(10);
+    }
+
+    /// What was never met. A checker could be wrong there and no log would show it, so that a count of 0 is a failure.
+    pub fn untried(&self) -> Vec<String> {
+        let mut untried = Vec::new();
+        for (question, met) in self.met() {
+            for Met(count, what) in met {
+                if count == 0 {
+                    untried.push(format!("{question}: {what}"));
+                }
+            }
         }
         untried
     }

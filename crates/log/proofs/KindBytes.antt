@@ -1,9 +1,19 @@
--- A record's kind, from its kind byte. Assumes nothing.
+-- A record's kind, from its kind byte, and what a record of a kind writes. Assumes nothing.
 use Prim.Native.Nat.{ℕ}
-use mathlib.Core.Path.{_≡_, refl}
+use mathlib.Core.Path.{_≡_, refl, sym, _∙_}
 use mathlib.Core.List.{List}
+use mathlib.Core.Bool.{Bool, true, false}
 use lib.Dec.{eqb}
-use Rattle.log.specs.Record.{kind, is-read, is-write, is-commit, read-kind, write-kind, commit-kind}
+use borrow.Author.Tests.{eq-eqb, ne-eqb}
+use Rattle.log.specs.Record.{kind, item, copy-of, is-read, is-write, is-commit, read-kind, write-kind, commit-kind}
+use Rattle.log.specs.Record.{writes-copy, writes-item}
+
+-- a test of the kind byte, by a byte that was read and compared
+pub byte-is : {test : Bool} {kind byte n : ℕ} → test ≡ eqb kind n → byte ≡ kind → byte ≡ n → test ≡ true
+byte-is {kind = kind} {n = n} t e q = t ∙ eq-eqb kind n (sym e ∙ q)
+
+pub byte-is-not : {test : Bool} {kind byte n : ℕ} → test ≡ eqb kind n → byte ≡ kind → (byte ≡ n → ⊥) → test ≡ false
+byte-is-not {kind = kind} {n = n} t e q = t ∙ ne-eqb kind n (λ r. q (e ∙ r))
 
 module _ (log : List ℕ) (k : ℕ) where
   pub read-byte : is-read log k ≡ eqb (kind log k) 1
@@ -17,3 +27,20 @@ module _ (log : List ℕ) (k : ℕ) where
   pub commit-byte : is-commit log k ≡ eqb (kind log k) 3
   unfolding is-commit commit-kind
   commit-byte = refl
+
+  -- what a write writes, and that no other record writes
+  pub copy-writes : is-write log k ≡ true → (c : ℕ) → writes-copy log k c ≡ eqb (copy-of log k) c
+  unfolding writes-copy
+  copy-writes e c = rw e refl
+
+  pub item-writes : is-write log k ≡ true → (x : ℕ) → writes-item log k x ≡ eqb (item log k) x
+  unfolding writes-item
+  item-writes e x = rw e refl
+
+  pub copy-silent : is-write log k ≡ false → (c : ℕ) → writes-copy log k c ≡ false
+  unfolding writes-copy
+  copy-silent e c = rw e refl
+
+  pub item-silent : is-write log k ≡ false → (x : ℕ) → writes-item log k x ≡ false
+  unfolding writes-item
+  item-silent e x = rw e refl

@@ -62,6 +62,11 @@ module _ (log : List ℕ) where
   unfolding writes-copy
   writes-copy-hit e c w q = and-true (is-write log e) (eqb (copy-of log e) c) w (eq-eqb (copy-of log e) c q)
 
+  pub writes-item-found : (e x : ℕ) → writes-item log e x ≡ true → (is-write log e ≡ true) × (item log e ≡ x)
+  unfolding writes-item
+  writes-item-found e x h =
+      (and-left (is-write log e) (eqb (item log e) x) h, eqb-true (item log e) x (and-right (is-write log e) (eqb (item log e) x) h))
+
   pub wrote-copy-found : (t c k : ℕ) → wrote-copy log t c k ≡ true → (e : ℕ) × (e < k) × ((is-by log e t && writes-copy log e c) ≡ true)
   unfolding wrote-copy
   wrote-copy-found t c k h = some-found (λ e. is-by log e t && writes-copy log e c) k h

@@ -7,9 +7,9 @@ use mathlib.Core.List.{List}
 use mathlib.Core.Bool.{Bool, true, false, _&&_, _||_}
 use mathlib.Core.Option.{some}
 use lib.Dec.{eqb}
-use lib.ListN.{getD, set, replicate, length-set, length-replicate, List·getD-eq-default, getD-replicate}
+use lib.ListN.{getD, set, replicate, length-set, length-replicate}
 use lib.Seq.{getD-set-same, getD-set-other}
-use native.Mathlib.Decide.{ℕ-discrete, decLt}
+use native.Mathlib.Decide.{ℕ-discrete}
 use borrow.Author.Tests.{eq-eqb, ne-eqb}
 use Rattle.sets.specs.Search.{some-below, first-below}
 use Rattle.sets.specs.Bits.{has}
@@ -17,7 +17,7 @@ use Rattle.sets.proofs.Truth.{clash, and-swap, and-always, and-nothing, or-noth
 use Rattle.sets.proofs.Searches.{some-more, some-zero, none-some, first-hit, first-stays}
 use Rattle.sets.proofs.Members.{has-zero}
 use Rattle.sets.proofs.Tables.{holds-store, holds-same, holds-none}
-use Rattle.log.specs.Record.{transactions, transaction, item, copy-of, is-by, is-write, is-commit, writes-copy, writes-item}
+use Rattle.log.specs.Record.{transactions, transaction, is-by, is-commit}
 use Rattle.log.specs.Record.{named, committed}
 use Rattle.log.specs.Kept.{KeptWriters, KeptCommits, KeptNames}
 
@@ -29,40 +29,22 @@ module _ (log : List ℕ) (writes : ℕ → ℕ → Bool) (wide k : ℕ) (table 
   writers-add d t v l e q h =
       holds-store w d v (eqb t) l h
       (λ c i.
-          some-more (λ j. is-by log j i && writes j c) k
-          ∙ ap (λ (b : Bool). some-below k (λ j. is-by log j i && writes j c) || b)
-            (ap₂ (λ (x : ℕ) (b : Bool). eqb x i && b) (sym q) (e c) ∙ and-swap (eqb t i) (eqb d c)))
+      some-more (λ j. is-by log j i && writes j c) k
+      ∙ ap (λ (b : Bool). some-below k (λ j. is-by log j i && writes j c) || b)
+      (ap₂ (λ (x : ℕ) (b : Bool). eqb x i && b) (sym q) (e c) ∙ and-swap (eqb t i) (eqb d c)))
 
   -- a record that writes nothing adds nothing
   pub writers-stay : ((c : ℕ) → writes k c ≡ false) → KeptWriters log writes wide (k + 1) table
   writers-stay e =
       holds-same w
       (λ c t.
-          sym (some-more (λ i. is-by log i t && writes i c) k
-          ∙ ap (λ (b : Bool). some-below k (λ i. is-by log i t && writes i c) || b) (ap (λ (b : Bool). is-by log k t && b) (e c) ∙ and-nothing (is-by log k t))
-          ∙ or-nothing (some-below k (λ i. is-by log i t && writes i c))))
+      sym (some-more (λ i. is-by log i t && writes i c) k
+      ∙ ap (λ (b : Bool). some-below k (λ i. is-by log i t && writes i c) || b) (ap (λ (b : Bool). is-by log k t && b) (e c) ∙ and-nothing (is-by log k t))
+      ∙ or-nothing (some-below k (λ i. is-by log i t && writes i c))))
 
 -- before the first record nothing is written
 pub writers-start : (log : List ℕ) (writes : ℕ → ℕ → Bool) (wide : ℕ) → KeptWriters log writes wide 0 (replicate wide 0)
 writers-start log writes wide = holds-none wide (λ c t. some-zero (λ i. is-by log i t && writes i c))
-
-module _ (log : List ℕ) (k : ℕ) where
-  -- what a write writes, and that no other record writes
-  pub copy-writes : is-write log k ≡ true → (c : ℕ) → writes-copy log k c ≡ eqb (copy-of log k) c
-  unfolding writes-copy
-  copy-writes e c = rw e refl
-
-  pub item-writes : is-write log k ≡ true → (x : ℕ) → writes-item log k x ≡ eqb (item log k) x
-  unfolding writes-item
-  item-writes e x = rw e refl
-
-  pub copy-silent : is-write log k ≡ false → (c : ℕ) → writes-copy log k c ≡ false
-  unfolding writes-copy
-  copy-silent e c = rw e refl
-
-  pub item-silent : is-write log k ≡ false → (x : ℕ) → writes-item log k x ≡ false
-  unfolding writes-item
-  item-silent e x = rw e refl
 
 -- commits
 pub commits-start : (log : List ℕ) → KeptCommits log 0 0

@@ -3,3 +3,4 @@ pub mod Searches
 pub mod From
 pub mod Members
 pub mod Tables
+pub mod Passes

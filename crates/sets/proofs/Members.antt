@@ -33,15 +33,15 @@ module _
     (step : (a b : ℕ) → op a b ≡ op (a / 2) (b / 2) * 2 + digit (a % 2) (b % 2))
     (fits : (x y : ℕ) → x < 2 → y < 2 → (digit x y < 2) × (eqb (digit x y) 1 ≡ test (eqb x 1) (eqb y 1)))
   where
-  has-op : (a b i : ℕ) → has (op a b) i ≡ test (has a i) (has b i)
-  unfolding has
-  has-op a b i =
-      let x = a / 2 ^ i in
-      let y = b / 2 ^ i in
-      let fit = fits (x % 2) (y % 2) (digit-lt x) (digit-lt y) in
-      ap (λ (z : ℕ). eqb (z % 2) 1) (shift a b i ∙ step x y)
-      ∙ ap (λ (z : ℕ). eqb z 1) (digits-mod (op (x / 2) (y / 2)) (fit .0))
-      ∙ fit .1
+    has-op : (a b i : ℕ) → has (op a b) i ≡ test (has a i) (has b i)
+    unfolding has
+    has-op a b i =
+        let x = a / 2 ^ i in
+        let y = b / 2 ^ i in
+        let fit = fits (x % 2) (y % 2) (digit-lt x) (digit-lt y) in
+        ap (λ (z : ℕ). eqb (z % 2) 1) (shift a b i ∙ step x y)
+        ∙ ap (λ (z : ℕ). eqb z 1) (digits-mod (op (x / 2) (y / 2)) (fit .0))
+        ∙ fit .1
 
 pub has-or : (a b i : ℕ) → has (bitOr a b) i ≡ (has a i || has b i)
 has-or =

@@ -5,18 +5,18 @@ use native.Mathlib.Omega.{arith}
 use native.Mathlib.Numerals.{add-one}
 use native.Mathlib.Decide.{ℕ-discrete, decLt}
 use native.Mathlib.Nat.{one-mul, pow-suc, zero-add}
-use mathlib.Core.Path.{_≡_, refl, sym, _∙_, ap, ap₂}
+use mathlib.Core.Path.{_≡_, refl, sym, _∙_, ap}
 use mathlib.Core.List.{List, [], _∷_, _++_}
 use mathlib.Core.Bool.{Bool, true, false, _&&_, _||_, cond}
 use mathlib.Core.Logic.{_⊎_, inl, inr, ⊎-elim}
 use lib.Dec.{eqb, ltb}
-use lib.ListN.{length, getD, set, replicate, length-set, length-replicate, length-append, List·getD-eq-default, List·getD-append, getD-replicate}
+use lib.ListN.{length, getD, set, replicate, length-set, length-replicate, length-append, List·getD-eq-default, List·getD-append}
+use lib.ListN.{getD-replicate}
 use lib.Seq.{getD-set-same, getD-set-other, ext-getD, getD-append-seam}
-use lib.Bits.{bitOr, or-shifted}
-use lib.Pow.{pow-pos}
+use lib.Bits.{or-shifted}
 use borrow.Author.Tests.{eq-eqb, ne-eqb, lt-ltb, le-ltb}
-use Rattle.sets.specs.Bits.{has, set-of, table-of, Holds}
-use Rattle.sets.proofs.Truth.{either, clash, and-always, and-nothing, or-nothing}
+use Rattle.sets.specs.Bits.{has, in-row, set-of, table-of, Holds}
+use Rattle.sets.proofs.Truth.{either, and-always, and-nothing, or-nothing}
 use Rattle.sets.proofs.Searches.{below-cases}
 use Rattle.sets.proofs.Members.{has-zero, has-or, has-power, same-members}
 
@@ -96,13 +96,16 @@ module _ (p : ℕ → Bool) where
           more (yes l) = lt-ltb j n l ∙ sym (lt-ltb j (suc n) (omega arith))
           more (no l) = le-ltb j n (omega arith) ∙ sym (le-ltb j (suc n) (omega arith))
 
--- the set that has exactly what passes the test, where nothing from n on does
-pub only-set : (n x : ℕ) (p : ℕ → Bool) → ((j : ℕ) → p j ≡ true → j < n) → ((j : ℕ) → has x j ≡ p j) → x ≡ set-of n p
-only-set n x p low h = same-members x (set-of n p) (λ j. h j ∙ within j (either (p j)) ∙ sym (has-set-of p n j))
+-- a set of everything that passes the test, where nothing from n on does; and it is the only one
+pub has-all : (n : ℕ) (p : ℕ → Bool) → ((j : ℕ) → p j ≡ true → j < n) → (j : ℕ) → has (set-of n p) j ≡ p j
+has-all n p low j = has-set-of p n j ∙ within (either (p j))
   where
-    within : (j : ℕ) → (p j ≡ true) ⊎ (p j ≡ false) → p j ≡ (ltb j n && p j)
-    within j (inl t) = rw (lt-ltb j n (low j t)) refl
-    within j (inr f) = rw (f, and-nothing (ltb j n)) refl
+    within : (p j ≡ true) ⊎ (p j ≡ false) → (ltb j n && p j) ≡ p j
+    within (inl t) = rw (lt-ltb j n (low j t)) refl
+    within (inr f) = rw (f, and-nothing (ltb j n)) refl
+
+pub only-set : (n x : ℕ) (p : ℕ → Bool) → ((j : ℕ) → p j ≡ true → j < n) → ((j : ℕ) → has x j ≡ p j) → x ≡ set-of n p
+only-set n x p low h = same-members x (set-of n p) (λ j. h j ∙ sym (has-all n p low j))
 
 -- the table of rows
 module _ (row : ℕ → ℕ) where
@@ -119,9 +122,54 @@ module _ (row : ℕ → ℕ) where
       (λ (q : i ≡ n). ap (λ (x : ℕ). getD (table-of n row ++ (row n ∷ [])) x 0) (q ∙ sym (length-table n)) ∙ getD-append-seam (table-of n row) (row n) [] 0 ∙ ap row (sym q))
       (below-cases n i l)
 
--- the only table of a relation among the numbers below n
-pub only-table : (n : ℕ) (r : ℕ → ℕ → Bool) (table : List ℕ) → ((i j : ℕ) → r i j ≡ true → j < n) → Holds n r table
-    → table ≡ table-of n (λ i. set-of n (r i))
-only-table n r table low w =
-    ext-getD 0 table (table-of n (λ i. set-of n (r i))) (w .whole ∙ sym (length-table (λ i. set-of n (r i)) n))
-    (λ i l. only-set n (getD table i 0) (r i) (low i) (w .said i) ∙ sym (entry (λ i. set-of n (r i)) n i (rw (← w .whole) l)))
+-- nothing stands past a table's end
+pub row-past : (table : List ℕ) (i j : ℕ) → length table ≤ i → in-row table i j ≡ false
+row-past table i j l = ap (λ (x : ℕ). has x j) (List·getD-eq-default table 0 l) ∙ has-zero j
+
+-- a table that is filled row by row has the relation's first i rows
+module _ (wide : ℕ) (r : ℕ → ℕ → Bool) where
+  abbrev pub RowsBelow : ℕ → List ℕ → Type 0
+  RowsBelow i = Holds wide (λ a j. ltb a i && r a j)
+
+  pub rows-none : RowsBelow 0 (replicate wide 0)
+  rows-none = holds-none wide (λ a j. ap (λ (b : Bool). b && r a j) (le-ltb a 0 (omega arith)))
+
+  pub rows-more : {table : List ℕ} (i v : ℕ) → RowsBelow i table → i < wide → ((j : ℕ) → has v j ≡ r i j) → RowsBelow (i + 1) (set table i v)
+  rows-more {table = table} i v w l h = holds-store w i v (r i) l (λ j. h j ∙ sym (ap (λ (b : Bool). b || r i j) (blank j))) more
+    where
+      blank : (j : ℕ) → in-row table i j ≡ false
+      blank j = w .said i j ∙ ap (λ (b : Bool). b && r i j) (le-ltb i i (omega arith))
+
+      more : (a j : ℕ) → (ltb a (i + 1) && r a j) ≡ ((ltb a i && r a j) || (eqb i a && r i j))
+      more a j = go (ℕ-discrete i a) (decLt a i)
+        where
+          go : Dec (i ≡ a) → Dec (a < i) → (ltb a (i + 1) && r a j) ≡ ((ltb a i && r a j) || (eqb i a && r i j))
+          go (yes q) d = rw (← q, eq-eqb i i refl, le-ltb i i (omega arith), lt-ltb i (i + 1) (omega arith)) refl
+          go (no q) (yes m) = rw (ne-eqb i a q, lt-ltb a i m, lt-ltb a (i + 1) (omega arith), or-nothing (r a j)) refl
+          go (no q) (no m) = rw (ne-eqb i a q, le-ltb a i (omega arith), le-ltb a (i + 1) (omega arith)) refl
+
+  pub rows-all : {table : List ℕ} → RowsBelow wide table → ((i j : ℕ) → wide ≤ i → r i j ≡ false) → Holds wide r table
+  rows-all w past = holds-same w (λ i j. go i j (decLt i wide))
+    where
+      go : (i j : ℕ) → Dec (i < wide) → (ltb i wide && r i j) ≡ r i j
+      go i j (yes l) = rw (lt-ltb i wide l) refl
+      go i j (no l) = rw (le-ltb i wide (omega arith), past i j (omega arith)) refl
+
+-- the table of a relation among the numbers below n; and it is the only one
+pub holds-table : (n : ℕ) (r : ℕ → ℕ → Bool) → ((i j : ℕ) → r i j ≡ true → (i < n) × (j < n)) → Holds n r (table-of n (λ i. set-of n (r i)))
+holds-table n r low = record { whole = length-table row n; said = λ i j. go i j (decLt i n) }
+  where
+    row : ℕ → ℕ
+    row i = set-of n (r i)
+
+    go : (i j : ℕ) → Dec (i < n) → in-row (table-of n row) i j ≡ r i j
+    go i j (yes l) = ap (λ (x : ℕ). has x j) (entry row n i l) ∙ has-all n (r i) (λ k h. low i k h .1) j
+    go i j (no l) = row-past (table-of n row) i j (rw (length-table row n) (omega arith)) ∙ sym (outside (either (r i j)))
+      where
+        outside : (r i j ≡ true) ⊎ (r i j ≡ false) → r i j ≡ false
+        outside (inl h) = absurd (l (low i j h .0))
+        outside (inr h) = h
+
+pub holds-once : {n : ℕ} {r : ℕ → ℕ → Bool} {first second : List ℕ} → Holds n r first → Holds n r second → first ≡ second
+holds-once {first = first} {second = second} v w =
+    ext-getD 0 first second (v .whole ∙ sym (w .whole)) (λ i l. same-members (getD first i 0) (getD second i 0) (λ j. v .said i j ∙ sym (w .said i j)))

@@ -16,6 +16,10 @@ unfoldable pub set-of : ℕ → (ℕ → Bool) → ℕ
 set-of zero p = 0
 set-of (suc n) p = cond (p n) (2 ^ n) 0 + set-of n p
 
+-- j is in the set at place i of a table
+abbrev pub in-row : List ℕ → ℕ → ℕ → Bool
+in-row table i j = has (getD table i 0) j
+
 -- the table of the first n sets
 unfoldable pub table-of : ℕ → (ℕ → ℕ) → List ℕ
 table-of zero row = []
@@ -24,4 +28,4 @@ table-of (suc n) row = table-of n row ++ (row n ∷ [])
 -- a table of the width given that holds a relation: bit j of number i is 1 exactly where the relation holds from i to j
 pub record Holds (wide : ℕ) (relation : ℕ → ℕ → Bool) (table : List ℕ) : Type 0 where
   pub whole : length table ≡ wide
-  pub said : (i j : ℕ) → has (getD table i 0) j ≡ relation i j
+  pub said : (i j : ℕ) → in-row table i j ≡ relation i j

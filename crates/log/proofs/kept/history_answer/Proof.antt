@@ -1,13 +1,12 @@
 -- `log::kept::history_answer` meets its contract: number 6 is one look at a set, and 7 and 8 are asked of reads alone.
 -- Assumes nothing.
 use borrow.Author.Needs.{needs}
-use borrow.Author.Tests.{eq-eqb, ne-eqb}
 use mathlib.Core.Path.{_≡_, _∙_, sym}
 use mathlib.Core.List.{List}
 use Prim.Native.Nat.{ℕ}
 use denote.Ref.{now}
 use Rattle.log.specs.Refusal.{after-commit}
-use Rattle.log.proofs.KindBytes.{read-byte}
+use Rattle.log.proofs.KindBytes.{byte-is, byte-is-not, read-byte}
 use Rattle.log.proofs.Histories.{gives-6, skips-6, after-kept, other-passes}
 use Rattle.log.proofs.kept.history_answer.Statement.{statement}
 use Rattle.log.proofs.kept.history_answer.Tie as tie
@@ -42,7 +41,7 @@ read-answer-requires : tie.Need-read-answer-requires
 read-answer-requires c κs =
     let e = c .before .before .before in
     let s = e .before .before .before in
-    (s .pre .0, ((read-byte (log e) (k e) ∙ eq-eqb _ 1 (sym (c .before .kind-at .ensures) ∙ c .if2 .taken)), (s .pre .1 .0, s .pre .1 .1 .0)))
+    (s .pre .0, ((byte-is (read-byte (log e) (k e)) (c .before .kind-at .ensures) (c .if2 .taken)), (s .pre .1 .0, s .pre .1 .1 .0)))
 
 returns-2 : tie.Need-returns-2
 returns-2 c =
@@ -53,7 +52,7 @@ returns-3 : tie.Need-returns-3
 returns-3 c =
     let e = c .before .before .before in
     sym (skips-6 (log e) (k e) (sym (said-6 e) ∙ c .before .before .if1 .left)
-    ∙ other-passes (log e) (k e) ((read-byte (log e) (k e) ∙ ne-eqb _ 1 (λ q. c .if2 .left (c .before .kind-at .ensures ∙ q)))))
+    ∙ other-passes (log e) (k e) (byte-is-not (read-byte (log e) (k e)) (c .before .kind-at .ensures) (c .if2 .left)))
 
 pub history-answer-spec : {M : Type 1} → statement M
 history-answer-spec =

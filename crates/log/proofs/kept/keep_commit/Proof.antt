@@ -1,9 +1,7 @@
 -- `log::kept::keep_commit` meets its contract: a commit adds its transaction, and no other record does. Assumes nothing.
 use borrow.Author.Needs.{needs}
-use borrow.Author.Tests.{eq-eqb, ne-eqb}
-use mathlib.Core.Path.{_∙_, sym}
 use denote.Ref.{now}
-use Rattle.log.proofs.KindBytes.{commit-byte}
+use Rattle.log.proofs.KindBytes.{byte-is, byte-is-not, commit-byte}
 use Rattle.log.proofs.Steps.{commits-add, commits-stay}
 use Rattle.log.proofs.kept.keep_commit.Statement.{statement}
 use Rattle.log.proofs.kept.keep_commit.Tie as tie
@@ -23,14 +21,14 @@ returns c =
     let s = e .before .before in
     let log = now (s .args .log) in
     commits-add log (s .args .k) (s .args .committed) (s .pre .1) (c .before .transaction-at .result) (c .with-member .result)
-    ((commit-byte log (s .args .k) ∙ eq-eqb _ 3 (sym (e .kind-at .ensures) ∙ c .before .before .if1 .taken))) (c .before .transaction-at .ensures .0) (c .with-member .ensures)
+    (byte-is (commit-byte log (s .args .k)) (e .kind-at .ensures) (c .before .before .if1 .taken)) (c .before .transaction-at .ensures .0) (c .with-member .ensures)
 
 returns-2 : tie.Need-returns-2
 returns-2 c =
     let e = c .before in
     let s = e .before .before in
     let log = now (s .args .log) in
-    commits-stay log (s .args .k) (s .args .committed) (s .pre .1) ((commit-byte log (s .args .k) ∙ ne-eqb _ 3 (λ q. c .if1 .left (e .kind-at .ensures ∙ q))))
+    commits-stay log (s .args .k) (s .args .committed) (s .pre .1) (byte-is-not (commit-byte log (s .args .k)) (e .kind-at .ensures) (c .if1 .left))
 
 pub keep-commit-spec : {M : Type 1} → statement M
 keep-commit-spec =

@@ -1,14 +1,13 @@
 -- `log::kept::keep_write` meets its contract: a write adds its transaction to the sets of its copy and of its item, and no
 -- other record adds anything. Assumes nothing.
 use borrow.Author.Needs.{needs}
-use borrow.Author.Tests.{eq-eqb, ne-eqb}
 use mathlib.Core.Path.{_∙_, sym, ap}
 use Prim.Native.Nat.{ℕ, _*_}
 use lib.Dec.{eqb}
 use denote.Ref.{now}
 use Rattle.log.specs.Record.{items, sites, writes-copy, writes-item}
-use Rattle.log.proofs.KindBytes.{write-byte}
-use Rattle.log.proofs.Steps.{writers-add, writers-stay, copy-writes, item-writes, copy-silent, item-silent}
+use Rattle.log.proofs.KindBytes.{byte-is, byte-is-not, write-byte, copy-writes, item-writes, copy-silent, item-silent}
+use Rattle.log.proofs.Steps.{writers-add, writers-stay}
 use Rattle.log.proofs.kept.keep_write.Statement.{statement}
 use Rattle.log.proofs.kept.keep_write.Tie as tie
 
@@ -65,7 +64,7 @@ returns c =
     let log = now (s .args .log) in
     let k = s .args .k in
     let t = at-transaction .transaction-at .result in
-    let writes = (write-byte log k ∙ eq-eqb _ 2 (sym (at-kind .kind-at .ensures) ∙ at-transaction .before .if1 .taken)) in (
+    let writes = byte-is (write-byte log k) (at-kind .kind-at .ensures) (at-transaction .before .if1 .taken) in (
       writers-add log (writes-copy log) (items * sites) k (now (s .args .copy-writers)) (s .pre .1 .0) (at-copy .copy-at .result) t (at-store .with-member .result)
           (at-copy .copy-at .ensures .1) (λ x. copy-writes log k writes x ∙ ap (λ (y : ℕ). eqb y x) (sym (at-copy .copy-at .ensures .0)))
           (at-transaction .transaction-at .ensures .0) (at-store .with-member .ensures),
@@ -79,7 +78,7 @@ returns-2 c =
     let s = c .before .before .before in
     let log = now (s .args .log) in
     let k = s .args .k in
-    let silent = (write-byte log k ∙ ne-eqb _ 2 (λ q. c .if1 .left (c .before .kind-at .ensures ∙ q))) in (
+    let silent = byte-is-not (write-byte log k) (c .before .kind-at .ensures) (c .if1 .left) in (
       writers-stay log (writes-copy log) (items * sites) k (now (s .args .copy-writers)) (s .pre .1 .0) (copy-silent log k silent),
       writers-stay log (writes-item log) items k (now (s .args .item-writers)) (s .pre .1 .1) (item-silent log k silent),
     )

@@ -1,13 +1,12 @@
 -- `log::source::source_record` meets its contract. The invariant of the walk back: no record from e up to k writes the copy.
 -- Assumes nothing.
-use borrow.Author.Tests.{eq-eqb, ne-eqb}
 use native.Mathlib.Omega.{arith}
 use mathlib.Core.Path.{_≡_, _∙_, sym}
 use mathlib.Core.Bool.{true, false}
 use Prim.Native.Nat.{ℕ, _-_, _≤_, _<_}
 use denote.Ref.{now}
 use Rattle.log.specs.Record.{is-read}
-use Rattle.log.proofs.KindBytes.{read-byte}
+use Rattle.log.proofs.KindBytes.{byte-is, byte-is-not, read-byte}
 use Rattle.log.proofs.Passed.{passed-within}
 use Rattle.log.proofs.Sources.{writes-it, source-other, source-found, source-missing, step-back}
 use Rattle.log.proofs.source.source_record.Statement.{statement}
@@ -23,7 +22,7 @@ abbrev μ-loop : tie.MeasureT-loop
 reads-it : (c : tie.Else1 Inv-loop μ-loop) → is-read (now (c .before .before .before .args .log)) (c .before .before .before .args .k) ≡ true
 reads-it c =
     let s = c .before .before .before in
-    (read-byte (now (s .args .log)) (s .args .k) ∙ eq-eqb _ 1 (sym (c .before .kind-at .ensures) ∙ c .if1 .left))
+    (byte-is (read-byte (now (s .args .log)) (s .args .k)) (c .before .kind-at .ensures) (c .if1 .left))
 
 kind-at-requires : tie.Need-kind-at-requires Inv-loop μ-loop
 kind-at-requires c κs = c .before .pre .1
@@ -32,7 +31,7 @@ returns : tie.Need-returns Inv-loop μ-loop
 returns c =
     let s = c .before .before .before in
     let log = now (s .args .log) in
-    sym (source-other log (s .args .k) ((read-byte log (s .args .k) ∙ ne-eqb _ 1 (λ q. c .if1 .taken (c .before .kind-at .ensures ∙ q)))))
+    sym (source-other log (s .args .k) (byte-is-not (read-byte log (s .args .k)) (c .before .kind-at .ensures) (c .if1 .taken)))
 
 loop-holds : tie.Need-loop-holds Inv-loop μ-loop
 loop-holds c = (omega arith, λ i l m. absurd (omega arith))

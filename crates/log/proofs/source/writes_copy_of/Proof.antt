@@ -1,13 +1,11 @@
 -- `log::source::writes_copy_of` meets its contract: only a write writes a copy, and it writes the one that it names.
 -- Assumes nothing.
 use borrow.Author.Needs.{needs}
-use borrow.Author.Tests.{eq-eqb, ne-eqb}
 use mathlib.Core.Path.{_∙_, sym, ap₂}
 use lib.Dec.{eqb}
 use denote.Ref.{now}
 use Rattle.log.specs.Record.{copy-of}
-use Rattle.log.proofs.KindBytes.{write-byte}
-use Rattle.log.proofs.Steps.{copy-writes, copy-silent}
+use Rattle.log.proofs.KindBytes.{byte-is, byte-is-not, write-byte, copy-writes, copy-silent}
 use Rattle.log.proofs.source.writes_copy_of.Statement.{statement}
 use Rattle.log.proofs.source.writes_copy_of.Tie as tie
 
@@ -18,7 +16,7 @@ returns : tie.Need-returns
 returns c =
     let s = c .before .before .before in
     let log = now (s .args .log) in
-    sym (copy-silent log (s .args .e) ((write-byte log (s .args .e) ∙ ne-eqb _ 2 (λ q. c .if1 .taken (c .before .kind-at .ensures ∙ q)))) (copy-of log (s .args .k)))
+    sym (copy-silent log (s .args .e) (byte-is-not (write-byte log (s .args .e)) (c .before .kind-at .ensures) (c .if1 .taken)) (copy-of log (s .args .k)))
 
 copy-at-requires : tie.Need-copy-at-requires
 copy-at-requires c κs = search needs
@@ -31,7 +29,7 @@ returns-2 c =
     let at-kind = c .before .before .before in
     let s = at-kind .before .before in
     let log = now (s .args .log) in
-    let writes = (write-byte log (s .args .e) ∙ eq-eqb _ 2 (sym (at-kind .kind-at .ensures) ∙ c .before .before .if1 .left)) in
+    let writes = byte-is (write-byte log (s .args .e)) (at-kind .kind-at .ensures) (c .before .before .if1 .left) in
     ap₂ eqb (c .before .copy-at .ensures .0) (c .copy-at2 .ensures .0) ∙ sym (copy-writes log (s .args .e) writes (copy-of log (s .args .k)))
 
 pub writes-copy-of-spec : {M : Type 1} → statement M

@@ -1,0 +1,163 @@
+//! The question "edge from i to j": the pairs that are asked of a log, and the first answer on which the two checkers differ.
+
+use crate::proved;
+use crate::tally::EdgeTally;
+use second::check::Refusal;
+use second::edges::{all_reasons, edge, reasons, Reasons};
+use second::history::History;
+use second::record::TRANSACTIONS;
+use std::collections::BTreeSet;
+
+/// Two numbers, the i and the j of a question.
+type Pair = (usize, usize);
+
+/// Numbers that no transaction has: one past the highest, the largest byte, two that are 0 where only their lowest byte or their
+/// lowest half is looked at, and the largest of all.
+const ABOVE: [usize; 5] = [TRANSACTIONS as usize, 255, 256, 1 << 32, usize::MAX];
+
+/// What is asked of a log that does not pass: its refusal comes before 10.
+const OF_A_REFUSED_LOG: [Pair; 3] = [(0, 1), (TRANSACTIONS as usize, 0), (usize::MAX, usize::MAX)];
+
+/// The logs of a set that are asked all 64 × 64 pairs: of those that pass the first, and then one in so many. A log is read anew
+/// for each question, so that all pairs of every log would take too long.
+pub struct Share {
+    one_in: u64,
+    passed: u64,
+}
+
+impl Share {
+    pub fn one_in(logs: u64) -> Share {
+        Share {
+            one_in: logs,
+            passed: 0,
+        }
+    }
+
+    /// Whether the next log that passes is one of them.
+    fn has_the_next(&mut self) -> bool {
+        let has = self.passed % self.one_in == 0;
+        self.passed += 1;
+        has
+    }
+}
+
+/// The first edge on which the two checkers differ, in words.
+pub fn difference(log: &[u8], share: &mut Share, tally: &mut EdgeTally) -> Option<String> {
+    match Graph::of_log(log) {
+        Ok(graph) => difference_of_graph(log, &graph, share.has_the_next(), tally),
+        Err(refusal) => OF_A_REFUSED_LOG.into_iter().find_map(|pair| {
+            tally.refused_log += 1;
+            difference_at(log, pair, Err(refusal))
+        }),
+    }
+}
+
+/// The first edge on which the two checkers differ, of a log that passes.
+fn difference_of_graph(
+    log: &[u8],
+    graph: &Graph,
+    all: bool,
+    tally: &mut EdgeTally,
+) -> Option<String> {
+    graph.pairs(all).into_iter().find_map(|pair| {
+        let expected = graph.edge(pair);
+        graph.count(pair, expected, tally);
+        difference_at(log, pair, expected)
+    })
+}
+
+/// The difference of one answer, if it is one.
+fn difference_at(log: &[u8], (i, j): Pair, expected: Result<u8, Refusal>) -> Option<String> {
+    let got = proved::edge_between(log, i, j);
+    if got == expected {
+        return None;
+    }
+    Some(format!(
+        "edge from {i} to {j}: proved {got:?}, second {expected:?}"
+    ))
+}
+
+/// The graph of a log that passes, by the second checker: it reads the log once, and not for each question.
+struct Graph {
+    history: History,
+    members: BTreeSet<usize>,
+    reasons: Reasons,
+}
+
+impl Graph {
+    fn of_log(log: &[u8]) -> Result<Graph, Refusal> {
+        let history = History::of_log(log)?;
+        Ok(Graph {
+            members: history
+                .transactions()
+                .into_iter()
+                .map(usize::from)
+                .collect(),
+            reasons: all_reasons(&history),
+            history,
+        })
+    }
+
+    /// The answer to "edge from i to j". A number above 63 is refused whatever the log holds, so long as it passes: the empty one
+    /// is asked, which takes no time.
+    fn edge(&self, (i, j): Pair) -> Result<u8, Refusal> {
+        match self.reasons.get(i).and_then(|row| row.get(j)) {
+            Some(&reason) => Ok(reason),
+            None => edge(&[], i as u64, j as u64),
+        }
+    }
+
+    /// The pairs that are asked: each number beside each, also beside itself; and the numbers above 63 in either place, the other
+    /// one's a transaction that is in the log, and in both.
+    fn pairs(&self, all: bool) -> Vec<Pair> {
+        let numbers = if all {
+            (0..usize::from(TRANSACTIONS)).collect()
+        } else {
+            self.numbers()
+        };
+        let mut pairs = Vec::new();
+        for &i in &numbers {
+            pairs.extend(numbers.iter().map(|&j| (i, j)));
+        }
+        let member = self.members.iter().next().copied().unwrap_or(0);
+        for above in ABOVE {
+            pairs.extend([(member, above), (above, member), (above, above)]);
+        }
+        pairs
+    }
+
+    /// The numbers that are asked where not all 64 are: the transactions in the log, the lowest that is not in it, and 63.
+    fn numbers(&self) -> BTreeSet<usize> {
+        let mut numbers = self.members.clone();
+        let absent = (0..usize::from(TRANSACTIONS)).find(|number| !numbers.contains(number));
+        numbers.extend(absent);
+        numbers.insert(usize::from(TRANSACTIONS) - 1);
+        numbers
+    }
+
+    /// Counts a question by what it asks for and by its answer.
+    fn count(&self, (i, j): Pair, answer: Result<u8, Refusal>, tally: &mut EdgeTally) {
+        match answer {
+            Err(_) => tally.above_63 += 1,
+            Ok(_) if !self.members.contains(&i) || !self.members.contains(&j) => {
+                tally.not_in_the_log += 1;
+            }
+            Ok(_) if i == j => tally.itself += 1,
+            Ok(reason) => self.count_reason((i, j), reason, tally),
+        }
+    }
+
+    /// Counts the answer for two transactions in the log. Where a reason is alone, a checker that lost it would find no edge; else
+    /// another reason would still give one.
+    fn count_reason(&self, (i, j): Pair, reason: u8, tally: &mut EdgeTally) {
+        let reason = usize::from(reason);
+        tally.lowest[reason] += 1;
+        if reason > 0 {
+            let mut only = [false; 3];
+            only[reason - 1] = true;
+            if reasons(&self.history, i as u8, j as u8) == only {
+                tally.alone[reason] += 1;
+            }
+        }
+    }
+}

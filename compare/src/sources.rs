@@ -1,0 +1,49 @@
+//! The question "source of record k": the records that are asked of a log, and the first answer on which the two checkers differ.
+
+use crate::proved;
+use crate::tally::SourceTally;
+use second::check::Refusal;
+use second::record::RECORD_BYTES;
+use second::source::{source_of_record, sources_of_log};
+
+/// What the second checker answers to "source of record k", for every k.
+struct Sources(Result<Vec<Option<u8>>, Refusal>);
+
+impl Sources {
+    fn at(&self, log: &[u8], k: usize) -> Result<Option<u8>, Refusal> {
+        match &self.0 {
+            Ok(sources) if k < sources.len() => Ok(sources[k]),
+            Ok(_) => source_of_record(log, k as u64),
+            Err(refusal) => Err(*refusal),
+        }
+    }
+}
+
+/// The first source on which the two checkers differ, in words.
+pub fn difference(log: &[u8], tally: &mut SourceTally) -> Option<String> {
+    let sources = Sources(sources_of_log(log));
+    let past = log.len() / RECORD_BYTES;
+    for k in (0..=past).chain([usize::MAX]) {
+        let expected = sources.at(log, k);
+        let got = proved::source_of_record(log, k);
+        if got != expected {
+            return Some(format!(
+                "source of record {k}: proved {got:?}, second {expected:?}"
+            ));
+        }
+        if sources.0.is_ok() {
+            count(log, k, expected, tally);
+        }
+    }
+    None
+}
+
+/// Counts an answer of a log that passes by what it says.
+fn count(log: &[u8], k: usize, answer: Result<Option<u8>, Refusal>, tally: &mut SourceTally) {
+    match answer {
+        Ok(None) => tally.none += 1,
+        Ok(Some(source)) if source == log[k * RECORD_BYTES + 1] => tally.own += 1,
+        Ok(Some(_)) => tally.other += 1,
+        Err(_) => tally.past_the_end += 1,
+    }
+}

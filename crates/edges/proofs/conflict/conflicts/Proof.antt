@@ -1,0 +1,119 @@
+-- `edges::conflict::conflicts` meets its contract. The invariant: the table has the conflicts of the records from k on, and the users
+-- and writers of each copy are those of these records. Assumes nothing.
+use borrow.Author.Needs.{needs}
+use native.Mathlib.Omega.{arith}
+use mathlib.Core.Path.{_≡_, sym, subst}
+use mathlib.Core.List.{List}
+use Prim.Native.Nat.{ℕ, _+_, _-_, _*_, _≤_}
+use lib.ListN.{replicate}
+use denote.Ref.{now}
+use Rattle.log.specs.Record.{Within, items, sites, records, writes-copy}
+use Rattle.log.proofs.Passed.{passed-within}
+use Rattle.edges.specs.Reasons.{uses-copy, conflicts-before}
+use Rattle.edges.specs.Kept.{KeptEdges, KeptUsers, KeptWriters}
+use Rattle.edges.proofs.Steps.{empty-table, back-one, edges-start, edges-add, later-start}
+use Rattle.edges.proofs.Whole.{conflicts-whole}
+use Rattle.edges.proofs.conflict.conflicts.Statement.{statement}
+use Rattle.edges.proofs.conflict.conflicts.Tie as tie
+
+abbrev Kept : List ℕ → List ℕ → List ℕ → List ℕ → ℕ → Type 0
+Kept log table users writers k = (k ≤ records log) × KeptEdges log (conflicts-before log) k table × KeptUsers log k users × KeptWriters log k writers
+
+abbrev Inv-loop : tie.InvT-loop
+Inv-loop log table₀ users₀ writers₀ k₀ table users writers k = Kept log table users writers k
+
+abbrev μ-loop : tie.MeasureT-loop
+μ-loop log table₀ users₀ writers₀ k₀ table users writers k = k
+
+record-count-requires : tie.Need-record-count-requires Inv-loop μ-loop
+record-count-requires c κs = search needs
+
+loop-holds : tie.Need-loop-holds Inv-loop μ-loop
+loop-holds c =
+    let s = c .before .before in
+    let log = now (s .args .log) in
+    let n = items * sites in
+    subst (Kept log (now (s .args .table)) (replicate n 0) (replicate n 0)) (sym (c .record-count .ensures)) (
+      omega arith,
+      edges-start log (conflicts-before log) (s .pre .1),
+      later-start log (uses-copy log) n (empty-table n),
+      later-start log (writes-copy log) n (empty-table n),
+    )
+
+-- in a turn
+module _ (c : tie.In-loop Inv-loop μ-loop) where
+  abbrev log : List ℕ
+  log = now (c .before .before .before .before .args .log)
+
+  abbrev k : ℕ
+  k = c .before .loop .k
+
+  right : Within log (k - 1)
+  right = passed-within log (c .before .before .before .before .pre .0) (k - 1) (omega (arith, c .before .loop .inv .0))
+
+  next : (P : ℕ → Type 0) → P k → P (k - 1 + 1)
+  next P = back-one P k (c .loop-test .taken)
+
+  next-users : KeptUsers log (k - 1 + 1) (c .before .loop .users)
+  next-users = next (λ x. KeptUsers log x (c .before .loop .users)) (c .before .loop .inv .2)
+
+  next-writers : KeptWriters log (k - 1 + 1) (c .before .loop .writers)
+  next-writers = next (λ x. KeptWriters log x (c .before .loop .writers)) (c .before .loop .inv .3)
+
+sub-k : tie.Need-sub-k Inv-loop μ-loop
+sub-k c = omega arith
+
+conflicting-later-requires : tie.Need-conflicting-later-requires Inv-loop μ-loop
+conflicting-later-requires c κs = let t = c .before .before in (right t, (next-users t, next-writers t))
+
+add-edges-requires : tie.Need-add-edges-requires Inv-loop μ-loop
+add-edges-requires c κs = let t = c .before .before .before .before in (right t, t .before .loop .inv .1 .whole)
+
+keep-user-requires : tie.Need-keep-user-requires Inv-loop μ-loop
+keep-user-requires c κs =
+    let t = c .before .before .before .before .before .before in
+    (t .before .before .before .before .pre .0, (right t, next-users t))
+
+keep-writer-requires : tie.Need-keep-writer-requires Inv-loop μ-loop
+keep-writer-requires c κs = let t = c .before .before .before .before .before .before .before .before in (right t, next-writers t)
+
+loop-less : tie.Need-loop-less Inv-loop μ-loop
+loop-less c = omega arith
+
+loop-again : tie.Need-loop-again Inv-loop μ-loop
+loop-again c =
+    let at-user = c .before .before in
+    let at-edges = at-user .before .before in
+    let at-later = at-edges .before .before in
+    let t = at-later .before .before .before in
+    let l = t .before .loop in (
+      omega (arith, l .inv .0),
+      edges-add (log t) (k t - 1) (right t .there) (conflicts-before (log t)) (l .table) (at-edges .add-edges .last .1 .1 .1 .0) (at-later .conflicting-later .result)
+          (next t (λ x. KeptEdges (log t) (conflicts-before (log t)) x (l .table)) (l .inv .1)) (at-later .conflicting-later .ensures) (at-edges .add-edges .ensures),
+      at-user .keep-user .ensures,
+      c .keep-writer .ensures,
+    )
+
+returns : tie.Need-returns Inv-loop μ-loop
+returns c =
+    let log = now (c .before .before .before .before .args .log) in
+    let l = c .before .loop in
+    let at-zero : l .k ≡ 0 = omega (arith, c .loop-test .left) in
+    conflicts-whole log (l .table) (subst (λ x. KeptEdges log (conflicts-before log) x (l .table)) at-zero (l .inv .1))
+
+pub conflicts-spec : {M : Type 1} → statement M
+conflicts-spec =
+    tie.close
+    (tie.spec
+    Inv-loop
+    μ-loop
+    record-count-requires
+    loop-holds
+    sub-k
+    conflicting-later-requires
+    add-edges-requires
+    keep-user-requires
+    keep-writer-requires
+    loop-less
+    loop-again
+    returns)

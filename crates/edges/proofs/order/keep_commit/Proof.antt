@@ -1,0 +1,59 @@
+-- `edges::order::keep_commit` meets its contract: a commit stands before those that are kept, and is kept with them; no other record
+-- adds anything. Assumes nothing.
+use borrow.Author.Needs.{needs}
+use denote.Ref.{now}
+use Rattle.log.proofs.KindBytes.{byte-is, byte-is-not, commit-byte}
+use Rattle.edges.specs.Order.{commits-before}
+use Rattle.edges.proofs.Steps.{edges-add, edges-stay, commits-add, commits-stay, commit-before, other-before}
+use Rattle.edges.proofs.order.keep_commit.Statement.{statement}
+use Rattle.edges.proofs.order.keep_commit.Tie as tie
+
+kind-at-requires : tie.Need-kind-at-requires
+kind-at-requires c κs = search needs
+
+add-edges-requires : tie.Need-add-edges-requires
+add-edges-requires c κs = search needs
+
+transaction-at-requires : tie.Need-transaction-at-requires
+transaction-at-requires c κs = search needs
+
+with-member-requires : tie.Need-with-member-requires
+with-member-requires c κs = search needs
+
+returns : tie.Need-returns
+returns c = let at-transaction = c .before in
+    let at-edges = at-transaction .before in
+    let at-test = at-edges .before .before in
+    let at-kind = at-test .before in
+    let s = at-kind .before .before in
+    let log = now (s .args .log) in
+    let k = s .args .k in
+    let later = s .args .later in
+    let there = s .pre .0 .there in
+    let commits = byte-is (commit-byte log k) (at-kind .kind-at .ensures) (at-test .if1 .taken) in (
+      commits-add log k there later (at-transaction .transaction-at .result) (c .with-member .result) (s .pre .1 .0) commits
+          (at-transaction .transaction-at .ensures .0) (c .with-member .ensures),
+      edges-add log k there (commits-before log) (now (s .args .after)) (at-edges .add-edges .last .1 .1 .1 .0) later (s .pre .1 .1)
+          (λ j. commit-before log k there later j (s .pre .1 .0) commits) (at-edges .add-edges .ensures),
+    )
+
+returns-2 : tie.Need-returns-2
+returns-2 c = let s = c .before .before .before in
+    let log = now (s .args .log) in
+    let k = s .args .k in
+    let there = s .pre .0 .there in
+    let other = byte-is-not (commit-byte log k) (c .before .kind-at .ensures) (c .if1 .left) in (
+      commits-stay log k there (s .args .later) (s .pre .1 .0) other,
+      edges-stay log k there (commits-before log) (now (s .args .after)) (s .pre .1 .1) (λ j. other-before log k there j other),
+    )
+
+pub keep-commit-spec : {M : Type 1} → statement M
+keep-commit-spec =
+    tie.close
+    (tie.spec
+    kind-at-requires
+    add-edges-requires
+    transaction-at-requires
+    with-member-requires
+    returns
+    returns-2)

@@ -1,0 +1,51 @@
+-- `edges::order::later_writers` meets its contract: the writers of the item among those that commit after s. Assumes nothing.
+use borrow.Author.Needs.{needs}
+use mathlib.Core.Path.{_∙_, sym, ap, ap₂}
+use mathlib.Core.Bool.{_&&_}
+use denote.Ref.{now}
+use Rattle.log.specs.Record.{item}
+use Rattle.edges.specs.Order.{writes}
+use Rattle.edges.proofs.Orders.{later-writer-kept}
+use Rattle.edges.proofs.order.later_writers.Statement.{statement}
+use Rattle.edges.proofs.order.later_writers.Tie as tie
+
+item-at-requires : tie.Need-item-at-requires
+item-at-requires c κs = search needs
+
+mul-common : tie.Need-mul-common
+mul-common c = search needs
+
+element-copy-out-common : tie.Need-element-copy-out-common
+element-copy-out-common c = search needs
+
+mul-common-2 : tie.Need-mul-common-2
+mul-common-2 c = search needs
+
+element-copy-out-common-2 : tie.Need-element-copy-out-common-2
+element-copy-out-common-2 c = search needs
+
+common-requires : tie.Need-common-requires
+common-requires c κs = search needs
+
+returns : tie.Need-returns
+returns c j =
+    let at-item = c .before .before .before in
+    let s = at-item .before .before in
+    let log = now (s .args .log) in
+    let x = item log (s .args .k) in
+    let kept = s .pre .1 .1 .1 in
+    c .common .ensures j
+    ∙ ap₂ _&&_ (kept .item-writers .said (at-item .item-at .result) j ∙ ap (writes log j) (at-item .item-at .ensures .0)) (kept .later-commits .said (s .args .s) j)
+    ∙ sym (later-writer-kept log (s .pre .0) x (s .args .s) j)
+
+pub later-writers-spec : {M : Type 1} → statement M
+later-writers-spec =
+    tie.close
+    (tie.spec
+    item-at-requires
+    mul-common
+    element-copy-out-common
+    mul-common-2
+    element-copy-out-common-2
+    common-requires
+    returns)

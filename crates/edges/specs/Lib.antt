@@ -1,0 +1,5 @@
+pub mod Order
+pub mod Reasons
+pub mod Table
+pub mod Kept
+pub mod Numbers

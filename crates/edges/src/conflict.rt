@@ -1,0 +1,87 @@
+// Reason 1: conflicts on a copy.
+ghost use mathlib.Core.Path.{_≡_};
+ghost use Prim.Native.Nat.{ℕ, _+_};
+ghost use Rattle.sets.specs.Bits.{has, Holds};
+ghost use Rattle.log.specs.Answer.{passed};
+ghost use Rattle.log.specs.Record.{Within, transactions};
+ghost use Rattle.log.specs.Refusal.{check-answer};
+ghost use Rattle.edges.specs.Reasons.{conflicts-before, conflict};
+ghost use Rattle.edges.specs.Kept.{Empty, KeptUsers, KeptWriters};
+use crate::table::add_edges;
+use log::record::COMMIT;
+use log::record::Copy;
+use log::record::READ;
+use log::record::TRANSACTIONS;
+use log::record::WRITE;
+use log::record::copy_at;
+use log::record::kind_at;
+use log::record::record_count;
+use log::record::transaction_at;
+
+// The transactions with a later record that conflicts with record k: of a read the later writers of its copy, of a write all that
+// use it later.
+fn conflicting_later(
+    log: &[u8],
+    k: usize,
+    users: &[u64; Copy::COPIES],
+    writers: &[u64; Copy::COPIES],
+) -> u64
+    requires { ⌜ Within (now log) k ⌝ }
+    requires { ⌜ KeptUsers (now log) (k + 1) (now users) ⌝ }
+    requires { ⌜ KeptWriters (now log) (k + 1) (now writers) ⌝ }
+    ensures { λ r. ⌜ ((j : ℕ) → has r j ≡ conflicts-before (now (log .entry)) k j) ⌝ }
+{
+    let kind = kind_at(log, k);
+    if kind == READ {
+        return writers[copy_at(log, k)];
+    }
+    if kind == WRITE {
+        return users[copy_at(log, k)];
+    }
+    0
+}
+
+// Keeps a read or a write: its transaction is a user of its copy.
+fn keep_user(log: &[u8], k: usize, users: &mut [u64; Copy::COPIES])
+    requires { ⌜ check-answer (now log) ≡ passed ⌝ }
+    requires { ⌜ Within (now log) k ⌝ }
+    requires { ⌜ KeptUsers (now log) (k + 1) (now users) ⌝ }
+    ensures { λ r. ⌜ KeptUsers (now (log .entry)) k (now (users .exit)) ⌝ }
+{
+    if kind_at(log, k) != COMMIT {
+        let t = transaction_at(log, k);
+        let c = copy_at(log, k);
+        users[c] = sets::with_member(users[c], t);
+    }
+}
+
+// Keeps a write: its transaction is a writer of its copy.
+fn keep_writer(log: &[u8], k: usize, writers: &mut [u64; Copy::COPIES])
+    requires { ⌜ Within (now log) k ⌝ }
+    requires { ⌜ KeptWriters (now log) (k + 1) (now writers) ⌝ }
+    ensures { λ r. ⌜ KeptWriters (now (log .entry)) k (now (writers .exit)) ⌝ }
+{
+    if kind_at(log, k) == WRITE {
+        let t = transaction_at(log, k);
+        let c = copy_at(log, k);
+        writers[c] = sets::with_member(writers[c], t);
+    }
+}
+
+// Fills an empty table with the conflicts of a log that passes, in one pass from its end.
+pub(crate) fn conflicts(log: &[u8], table: &mut [u64; TRANSACTIONS])
+    requires { ⌜ check-answer (now log) ≡ passed ⌝ }
+    requires { ⌜ Empty transactions (now table) ⌝ }
+    ensures { λ r. ⌜ Holds transactions (conflict (now (log .entry))) (now (table .exit)) ⌝ }
+{
+    let mut users = [0u64; Copy::COPIES];
+    let mut writers = [0u64; Copy::COPIES];
+    let mut k = record_count(log);
+    while 0 < k {
+        k -= 1;
+        let later = conflicting_later(log, k, &users, &writers);
+        add_edges(log, k, later, table);
+        keep_user(log, k, &mut users);
+        keep_writer(log, k, &mut writers);
+    }
+}

@@ -1,0 +1,114 @@
+// The graph of a log: every edge with its lowest reason, and the question "edge from i to j".
+ghost use mathlib.Core.Path.{_≡_};
+ghost use Prim.Native.Nat.{_<_};
+ghost use Rattle.sets.specs.Bits.{Holds};
+ghost use Rattle.log.specs.Answer.{passed};
+ghost use Rattle.log.specs.Record.{transactions};
+ghost use Rattle.log.specs.Refusal.{check-answer};
+ghost use Rattle.edges.specs.Reasons.{conflict, write-order, read-before, reason, edge-answer, members, edge-table, graph-answer, unless-refused};
+ghost use Rattle.edges.specs.Kept.{Empty};
+ghost use Rattle.edges.specs.Numbers.{graph-says, edge-says};
+use crate::conflict::conflicts;
+use crate::order::keep_order;
+use crate::reasons::order_edges;
+use crate::table::joined;
+use crate::table::lowest_reason;
+use log::check::check;
+use log::record::Copy;
+use log::record::TRANSACTIONS;
+use log::refusal::Checked;
+use log::refusal::Refusal;
+
+// The graph of a log: the set of its transactions, or a refusal. Its edges are in the table that was lent.
+pub enum Graph {
+    Of(u64),
+    Refused(Refusal),
+}
+
+// The answer to the question: a reason, 0 where there is no edge; or a refusal.
+pub enum Edge {
+    Reason(u8),
+    Refused(Refusal),
+}
+
+// Fills three empty tables with the edges of a log that passes, each with those of one reason. The result is the set of its
+// transactions.
+pub fn edges_by_reason(
+    log: &[u8],
+    by_conflict: &mut [u64; TRANSACTIONS],
+    by_order: &mut [u64; TRANSACTIONS],
+    by_read: &mut [u64; TRANSACTIONS],
+) -> u64
+    requires { ⌜ check-answer (now log) ≡ passed ⌝ }
+    requires { ⌜ Empty transactions (now «by_conflict») ⌝ }
+    requires { ⌜ Empty transactions (now «by_order») ⌝ }
+    requires { ⌜ Empty transactions (now «by_read») ⌝ }
+    ensures { λ r. ⌜ r ≡ members (now (log .entry)) ⌝ }
+    ensures { λ r. ⌜ Holds transactions (conflict (now (log .entry))) (now («by_conflict» .exit)) ⌝ }
+    ensures { λ r. ⌜ Holds transactions (write-order (now (log .entry))) (now («by_order» .exit)) ⌝ }
+    ensures { λ r. ⌜ Holds transactions (read-before (now (log .entry))) (now («by_read» .exit)) ⌝ }
+{
+    let mut writers = [0u64; Copy::ITEMS];
+    let mut after = [0u64; TRANSACTIONS];
+    let set = keep_order(log, &mut writers, &mut after);
+    conflicts(log, by_conflict);
+    order_edges(log, &writers, &after, by_order, by_read);
+    set
+}
+
+// The table of every edge of a log that passes, and the set of its transactions.
+pub fn edges_of_log(log: &[u8], table: &mut [u64; TRANSACTIONS]) -> u64
+    requires { ⌜ check-answer (now log) ≡ passed ⌝ }
+    ensures { λ r. ⌜ r ≡ members (now (log .entry)) ⌝ }
+    ensures { λ r. ⌜ now (table .exit) ≡ edge-table (now (log .entry)) ⌝ }
+{
+    let mut by_conflict = [0u64; TRANSACTIONS];
+    let mut by_order = [0u64; TRANSACTIONS];
+    let mut by_read = [0u64; TRANSACTIONS];
+    let set = edges_by_reason(log, &mut by_conflict, &mut by_order, &mut by_read);
+    joined(&by_conflict, &by_order, &by_read, table);
+    set
+}
+
+// The graph of any bytes: the log is checked first, and a refusal leaves the table.
+pub fn graph_of_log(log: &[u8], table: &mut [u64; TRANSACTIONS]) -> Graph
+    ensures { λ r. ⌜ graph-says r ≡ graph-answer (now (log .entry)) ⌝ }
+    ensures { λ r. ⌜ now (table .exit) ≡ unless-refused (check-answer (now (log .entry))) (edge-table (now (log .entry))) (now (table .entry)) ⌝ }
+{
+    match check(log) {
+        Checked::Refused(why) => Graph::Refused(why),
+        Checked::Passed => Graph::Of(edges_of_log(log, table)),
+    }
+}
+
+// The lowest reason of an edge from i to j in a log that passes.
+pub fn reason_between(log: &[u8], i: usize, j: usize) -> u8
+    requires { ⌜ check-answer (now log) ≡ passed ⌝ }
+    requires { ⌜ (i < transactions) × (j < transactions) ⌝ }
+    ensures { λ r. ⌜ r ≡ reason (now (log .entry)) i j ⌝ }
+{
+    let mut by_conflict = [0u64; TRANSACTIONS];
+    let mut by_order = [0u64; TRANSACTIONS];
+    let mut by_read = [0u64; TRANSACTIONS];
+    edges_by_reason(log, &mut by_conflict, &mut by_order, &mut by_read);
+    lowest_reason(&by_conflict, &by_order, &by_read, i, j)
+}
+
+// The reason of the edge from i to j. Any bytes and any numbers may be asked: the log is checked first, and then that both are
+// transactions.
+pub fn edge_between(log: &[u8], i: usize, j: usize) -> Edge
+    ensures { λ r. ⌜ edge-says r ≡ edge-answer (now (log .entry)) i j ⌝ }
+{
+    match check(log) {
+        Checked::Refused(why) => Edge::Refused(why),
+        Checked::Passed => {
+            if TRANSACTIONS <= i {
+                return Edge::Refused(Refusal::BadQuestion);
+            }
+            if TRANSACTIONS <= j {
+                return Edge::Refused(Refusal::BadQuestion);
+            }
+            Edge::Reason(reason_between(log, i, j))
+        }
+    }
+}

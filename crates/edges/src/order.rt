@@ -1,0 +1,86 @@
+// The write order of an item: what is kept of it, and the writers that come after a given one.
+ghost use mathlib.Core.Path.{_≡_};
+ghost use Prim.Native.Nat.{ℕ, _+_, _<_};
+ghost use Rattle.sets.specs.Bits.{has};
+ghost use Rattle.log.specs.Answer.{passed};
+ghost use Rattle.log.specs.Record.{Within, transactions, items, item, in-log};
+ghost use Rattle.log.specs.Refusal.{check-answer};
+ghost use Rattle.edges.specs.Order.{later-writer, commits-before};
+ghost use Rattle.edges.specs.Kept.{Empty, KeptItems, KeptEdges, KeptCommits, KeptOrder};
+use crate::table::add_edges;
+use log::record::COMMIT;
+use log::record::Copy;
+use log::record::TRANSACTIONS;
+use log::record::WRITE;
+use log::record::item_at;
+use log::record::kind_at;
+use log::record::record_count;
+use log::record::transaction_at;
+
+// Keeps a write: its transaction is a writer of its item.
+fn keep_writer(log: &[u8], k: usize, writers: &mut [u64; Copy::ITEMS])
+    requires { ⌜ Within (now log) k ⌝ }
+    requires { ⌜ KeptItems (now log) (k + 1) (now writers) ⌝ }
+    ensures { λ r. ⌜ KeptItems (now (log .entry)) k (now (writers .exit)) ⌝ }
+{
+    if kind_at(log, k) == WRITE {
+        let t = transaction_at(log, k);
+        let x = item_at(log, k);
+        writers[x] = sets::with_member(writers[x], t);
+    }
+}
+
+// Keeps a commit: all that commit later come after its transaction, which then is one of them.
+fn keep_commit(log: &[u8], k: usize, later: u64, after: &mut [u64; TRANSACTIONS]) -> u64
+    requires { ⌜ Within (now log) k ⌝ }
+    requires { ⌜ KeptCommits (now log) (k + 1) later ⌝ }
+    requires { ⌜ KeptEdges (now log) (commits-before (now log)) (k + 1) (now after) ⌝ }
+    ensures { λ r. ⌜ KeptCommits (now (log .entry)) k r ⌝ }
+    ensures { λ r. ⌜ KeptEdges (now (log .entry)) (commits-before (now (log .entry))) k (now (after .exit)) ⌝ }
+{
+    if kind_at(log, k) == COMMIT {
+        add_edges(log, k, later, after);
+        return sets::with_member(later, transaction_at(log, k));
+    }
+    later
+}
+
+// Reads a log that passes, from its end, for its write orders. The result is the set of its transactions: each of them commits.
+pub(crate) fn keep_order(
+    log: &[u8],
+    writers: &mut [u64; Copy::ITEMS],
+    after: &mut [u64; TRANSACTIONS],
+) -> u64
+    requires { ⌜ check-answer (now log) ≡ passed ⌝ }
+    requires { ⌜ Empty items (now writers) ⌝ }
+    requires { ⌜ Empty transactions (now after) ⌝ }
+    ensures { λ r. ⌜ KeptOrder (now (log .entry)) (now (writers .exit)) (now (after .exit)) ⌝ }
+    ensures { λ r. ⌜ ((t : ℕ) → has r t ≡ in-log (now (log .entry)) t) ⌝ }
+{
+    let mut committed: u64 = 0;
+    let mut k = record_count(log);
+    while 0 < k {
+        k -= 1;
+        keep_writer(log, k, writers);
+        committed = keep_commit(log, k, committed, after);
+    }
+    committed
+}
+
+// The writers of record k's item that come after s in its write order.
+pub(crate) fn later_writers(
+    log: &[u8],
+    k: usize,
+    s: usize,
+    writers: &[u64; Copy::ITEMS],
+    after: &[u64; TRANSACTIONS],
+) -> u64
+    requires { ⌜ check-answer (now log) ≡ passed ⌝ }
+    requires { ⌜ Within (now log) k ⌝ }
+    requires { ⌜ s < transactions ⌝ }
+    requires { ⌜ KeptOrder (now log) (now writers) (now after) ⌝ }
+    ensures { λ r. ⌜ ((j : ℕ) → has r j ≡ later-writer (now (log .entry)) (item (now (log .entry)) k) s j) ⌝ }
+{
+    let x = item_at(log, k);
+    sets::common(writers[x], after[s])
+}

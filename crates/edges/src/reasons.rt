@@ -1,0 +1,88 @@
+// Reasons 2 and 3, which go by the write order of an item.
+ghost use mathlib.Core.Path.{_≡_};
+ghost use Prim.Native.Nat.{ℕ};
+ghost use Rattle.sets.specs.Bits.{has, Holds};
+ghost use Rattle.log.specs.Answer.{passed};
+ghost use Rattle.log.specs.Record.{Within, transactions};
+ghost use Rattle.log.specs.Refusal.{check-answer};
+ghost use Rattle.edges.specs.Reasons.{writes-before, reads-before, write-order, read-before};
+ghost use Rattle.edges.specs.Kept.{Empty, KeptOrder};
+use crate::order::later_writers;
+use crate::table::add_edges;
+use log::record::Copy;
+use log::record::TRANSACTIONS;
+use log::record::WRITE;
+use log::record::kind_at;
+use log::record::record_count;
+use log::record::transaction_at;
+use log::source::Found;
+use log::source::source_record;
+
+// The transactions that record k puts after its own by reason 2.
+fn written_later(
+    log: &[u8],
+    k: usize,
+    writers: &[u64; Copy::ITEMS],
+    after: &[u64; TRANSACTIONS],
+) -> u64
+    requires { ⌜ check-answer (now log) ≡ passed ⌝ }
+    requires { ⌜ Within (now log) k ⌝ }
+    requires { ⌜ KeptOrder (now log) (now writers) (now after) ⌝ }
+    ensures { λ r. ⌜ ((j : ℕ) → has r j ≡ writes-before (now (log .entry)) k j) ⌝ }
+{
+    if kind_at(log, k) == WRITE {
+        let t = transaction_at(log, k);
+        return later_writers(log, k, t, writers, after);
+    }
+    0
+}
+
+// The transactions that record k puts after its own by reason 3: those that write its item after its source.
+fn written_after_source(
+    log: &[u8],
+    k: usize,
+    writers: &[u64; Copy::ITEMS],
+    after: &[u64; TRANSACTIONS],
+) -> u64
+    requires { ⌜ check-answer (now log) ≡ passed ⌝ }
+    requires { ⌜ Within (now log) k ⌝ }
+    requires { ⌜ KeptOrder (now log) (now writers) (now after) ⌝ }
+    ensures { λ r. ⌜ ((j : ℕ) → has r j ≡ reads-before (now (log .entry)) k j) ⌝ }
+{
+    match source_record(log, k) {
+        Found::At(e) => {
+            let s = transaction_at(log, e);
+            later_writers(log, k, s, writers, after)
+        }
+        Found::None => 0,
+    }
+}
+
+// Fills two empty tables with the edges of reasons 2 and 3 of a log that passes, in one pass with a walk back to the source of each
+// read.
+pub(crate) fn order_edges(
+    log: &[u8],
+    writers: &[u64; Copy::ITEMS],
+    after: &[u64; TRANSACTIONS],
+    by_order: &mut [u64; TRANSACTIONS],
+    by_read: &mut [u64; TRANSACTIONS],
+)
+    requires { ⌜ check-answer (now log) ≡ passed ⌝ }
+    requires { ⌜ KeptOrder (now log) (now writers) (now after) ⌝ }
+    requires { ⌜ Empty transactions (now «by_order») ⌝ }
+    requires { ⌜ Empty transactions (now «by_read») ⌝ }
+    ensures { λ r. ⌜ Holds transactions (write-order (now (log .entry))) (now («by_order» .exit)) ⌝ }
+    ensures { λ r. ⌜ Holds transactions (read-before (now (log .entry))) (now («by_read» .exit)) ⌝ }
+{
+    let mut k = record_count(log);
+    while 0 < k {
+        k -= 1;
+        add_edges(log, k, written_later(log, k, writers, after), by_order);
+        add_edges(
+            log,
+            k,
+            written_after_source(log, k, writers, after),
+            by_read,
+        );
+    }
+}
