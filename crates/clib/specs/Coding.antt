@@ -21,3 +21,7 @@ passed-value u = 0
 abbrev pub source-value : Option ℕ → ℕ
 source-value (some t) = t
 source-value none = transactions
+
+-- a reason is its number
+abbrev pub reason-value : ℕ → ℕ
+reason-value n = n

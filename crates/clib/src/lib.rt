@@ -3,7 +3,10 @@ ghost use mathlib.Core.Path.{_≡_};
 ghost use Rattle.log.specs.Refusal.{check-answer};
 ghost use Rattle.log.specs.Source.{source-answer};
 ghost use Rattle.log.specs.Numbers.{number-of, place-of};
-ghost use Rattle.clib.specs.Coding.{coded, coded-refusal, passed-value, source-value};
+ghost use Rattle.edges.specs.Reasons.{edge-answer};
+ghost use Rattle.clib.specs.Coding.{coded, coded-refusal, passed-value, source-value, reason-value};
+use edges::graph::Edge;
+use edges::graph::edge_between;
 use log::check::check;
 use log::record::TRANSACTIONS;
 use log::refusal::Checked;
@@ -64,5 +67,20 @@ pub extern "C" fn fruscalenta_source_of_record(log: &[u8], k: usize) -> Coded
             value: NONE,
         },
         Source::Refused(r) => refused(r),
+    }
+}
+
+// The edge from i to j. The value is its reason, 0 where there is none.
+#[no_mangle]
+pub extern "C" fn fruscalenta_edge_between(log: &[u8], i: usize, j: usize) -> Coded
+    ensures { λ a. ⌜ a ≡ coded reason-value (edge-answer (now (log .entry)) i j) ⌝ }
+{
+    match edge_between(log, i, j) {
+        Edge::Reason(n) => Coded {
+            number: 0,
+            place: 0,
+            value: n as u64,
+        },
+        Edge::Refused(r) => refused(r),
     }
 }
