@@ -43,7 +43,7 @@ module _ (log : List ℕ) (e : ℕ) where
   conflicts-with-read r w f =
       rw (r, w, eq-eqb (copy-of log e) (copy-of log e) refl) (users-write (is-read log f) (is-write log f) (eqb (copy-of log f) (copy-of log e)))
 
-  conflicts-with-write : is-write log e ≡ true → (f : ℕ) → conflicting log e f ≡ uses-copy log f (copy-of log e)
+  pub conflicts-with-write : is-write log e ≡ true → (f : ℕ) → conflicting log e f ≡ uses-copy log f (copy-of log e)
   unfolding conflicting on-same-copy
   conflicts-with-write w f = rw (own (use-of-write w), w) (and-always (uses-copy log f (copy-of log e)))
 

@@ -5,3 +5,5 @@ pub mod Conflicts
 pub mod Given
 pub mod Graphs
 pub mod Questions
+pub mod Chapter
+pub mod Determined

@@ -1,5 +1,6 @@
 pub mod Order
 pub mod Reasons
 pub mod Table
+pub mod Chapter
 pub mod Kept
 pub mod Numbers

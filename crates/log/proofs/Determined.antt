@@ -43,7 +43,7 @@ known BadQuestion = refl
 pub same-refusal : (r s : Refusal) → number-of r ≡ number-of s → place-of r ≡ place-of s → r ≡ s
 same-refusal r s n p = sym (known r) ∙ ap₂ refusal-of n p ∙ known s
 
-no-zero : (r : Refusal) → number-of r ≡ 0 → ⊥
+pub no-zero : (r : Refusal) → number-of r ≡ 0 → ⊥
 no-zero TooLong e = omega arith
 no-zero Ragged e = omega arith
 no-zero ShortBuffer e = omega arith

@@ -1,2 +1,3 @@
 pub mod Search
 pub mod Bits
+pub mod Paths

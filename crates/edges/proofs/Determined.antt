@@ -1,0 +1,43 @@
+-- The promises determine the answers about a graph, and the table that was lent. Assumes nothing.
+use Prim.Native.Nat.{ℕ}
+use mathlib.Core.Path.{_≡_, sym, _∙_, ap}
+use mathlib.Core.List.{List}
+use Rattle.log.specs.Answer.{Answer, gives, refused}
+use Rattle.log.specs.Refusal.{check-answer}
+use Rattle.log.proofs.Answers.{said-number, said-place}
+use Rattle.log.proofs.Determined.{same-refusal, no-zero}
+use Rattle.edges.specs.Reasons.{edge-answer, edge-table, graph-answer, unless-refused}
+use Rattle.edges.specs.Numbers.{graph-says, edge-says}
+use Rattle.edges.specs.declared.graph.Graph.{Graph}
+use Rattle.edges.specs.declared.graph.Graph.the-variants.{Of, Refused}
+use Rattle.edges.specs.declared.graph.Edge.{Edge}
+use Rattle.edges.specs.declared.graph.Edge.the-variants.{Reason, Refused as EdgeRefused}
+
+-- what an answer gives
+abbrev given : Answer ℕ → ℕ
+given (gives n) = n
+given (refused n p) = 0
+
+pub same-graph : (a b : Graph) → graph-says a ≡ graph-says b → a ≡ b
+same-graph (Of s) (Of t) e = ap Of (ap given e)
+same-graph (Of s) (Refused r) e = absurd (no-zero r (sym (ap said-number e)))
+same-graph (Refused r) (Of t) e = absurd (no-zero r (ap said-number e))
+same-graph (Refused r) (Refused s) e = ap Refused (same-refusal r s (ap said-number e) (ap said-place e))
+
+pub same-edge : (a b : Edge) → edge-says a ≡ edge-says b → a ≡ b
+same-edge (Reason m) (Reason n) e = ap Reason (ap given e)
+same-edge (Reason m) (EdgeRefused r) e = absurd (no-zero r (sym (ap said-number e)))
+same-edge (EdgeRefused r) (Reason n) e = absurd (no-zero r (ap said-number e))
+same-edge (EdgeRefused r) (EdgeRefused s) e = ap EdgeRefused (same-refusal r s (ap said-number e) (ap said-place e))
+
+-- The premises below are the promises of src/graph.rt, word for word.
+-- THEOREM: any two answers that `graph_of_log` promises for a log and a table are equal, and so are the tables left
+pub graph-determined : (log old : List ℕ) (a b : Graph) (left right : List ℕ)
+    → graph-says a ≡ graph-answer log → left ≡ unless-refused (check-answer log) (edge-table log) old
+    → graph-says b ≡ graph-answer log → right ≡ unless-refused (check-answer log) (edge-table log) old
+    → (a ≡ b) × (left ≡ right)
+graph-determined log old a b left right p q r s = (same-graph a b (p ∙ sym r), q ∙ sym s)
+
+-- THEOREM: any two answers that `edge_between` promises for a log and two numbers are equal
+pub edge-determined : (log : List ℕ) (i j : ℕ) (a b : Edge) → edge-says a ≡ edge-answer log i j → edge-says b ≡ edge-answer log i j → a ≡ b
+edge-determined log i j a b p q = same-edge a b (p ∙ sym q)
