@@ -18,11 +18,12 @@ use Rattle.log.specs.Refusal.{check-answer}
 use Rattle.log.specs.Source.{source-record, its-transaction, source}
 use Rattle.log.proofs.Sources.{Sourced, sourced, source-of}
 use Rattle.log.proofs.Passed.{by-own, by-same, same-copy, writes-copy-found, wrote-copy-found, passed-within, passed-source, passed-own}
-use Rattle.edges.specs.Order.{writes, comes-before, later-writer}
-use Rattle.edges.specs.Reasons.{of-source, uses-copy, conflicting, conflicts-before, writes-before, reads-before, conflict}
+use Rattle.edges.specs.Order.{writes, comes-before, writer-after}
+use Rattle.edges.specs.Reasons.{of-source, uses-copy, conflicting, gives-conflict, gives-write-order, gives-read-before, conflict}
 use Rattle.edges.specs.Reasons.{write-order, read-before, edge}
 use Rattle.edges.specs.Chapter.{serialization-edge, ReadsFrom, RDSG}
-use Rattle.edges.proofs.Orders.{of-hit, after-hit, writes-found, writes-hit, later-hit, one-comes-first}
+use Rattle.edges.proofs.Records.{of-hit, after-hit}
+use Rattle.edges.proofs.Orders.{writes-found, writes-hit, writer-after-hit, one-comes-first}
 use Rattle.edges.proofs.Conflicts.{use-of-read, use-of-write, conflicts-with-write}
 
 module _ (log : List ℕ) where
@@ -45,22 +46,22 @@ module _ (log : List ℕ) where
 
   -- two writers in their order, and a reader of the first, are edges
   pub ordered-edge : (x i j : ℕ) → writes log i x ≡ true → writes log j x ≡ true → (i ≡ j → ⊥) → comes-before log x i j ≡ true → edge log i j ≡ true
-  unfolding write-order writes-before
+  unfolding write-order gives-write-order
   ordered-edge x i j v w d h =
       let e = writes-found log i x v in
       let k = e .0 in
-      let later = later-hit log x i j (record { writer = w; other = λ q. d (sym q); comes-after = h }) in
-      let at-record : later-writer log (item log k) (transaction log k) j ≡ true = rw (e .4, by-same log k i (e .2)) later in
+      let later = writer-after-hit log x i j (record { writer = w; other = λ q. d (sym q); comes-after = h }) in
+      let at-record : writer-after log (item log k) (transaction log k) j ≡ true = rw (e .4, by-same log k i (e .2)) later in
       write-order-edge i j d
-      (of-hit log i (λ f. writes-before log f j) k (e .1) (e .2) (and-true (is-write log k) (later-writer log (item log k) (transaction log k) j) (e .3) at-record))
+      (of-hit log i (λ f. gives-write-order log f j) k (e .1) (e .2) (and-true (is-write log k) (writer-after log (item log k) (transaction log k) j) (e .3) at-record))
 
   pub reader-edge : (x i j k e : ℕ) → ReadsFrom log x j i e → writes log k x ≡ true → (k ≡ i → ⊥) → (k ≡ j → ⊥) → comes-before log x i k ≡ true
       → edge log j k ≡ true
-  unfolding read-before reads-before
+  unfolding read-before gives-read-before
   reader-edge x i j k e r w d f h =
-      let later = later-hit log x i k (record { writer = w; other = d; comes-after = h }) in
-      let at-record : of-source (source log e) (λ s. later-writer log (item log e) s k) ≡ true = rw (r .from, r .of-item) later in
-      read-before-edge j k (λ q. f (sym q)) (of-hit log j (λ g. reads-before log g k) e (r .there) (r .its-own) at-record)
+      let later = writer-after-hit log x i k (record { writer = w; other = d; comes-after = h }) in
+      let at-record : of-source (source log e) (λ s. writer-after log (item log e) s k) ≡ true = rw (r .from, r .of-item) later in
+      read-before-edge j k (λ q. f (sym q)) (of-hit log j (λ g. gives-read-before log g k) e (r .there) (r .its-own) at-record)
 
 module _ (log : List ℕ) (sound : check-answer log ≡ passed) where
   -- the source of a read writes the item that is read
@@ -98,10 +99,10 @@ module _ (log : List ℕ) (sound : check-answer log ≡ passed) where
   -- a write before a use of its copy by another is an edge of SG
   write-then-use : (e f : ℕ) → e < f → f < records log → (transaction log e ≡ transaction log f → ⊥) → is-write log e ≡ true
       → uses-copy log f (copy-of log e) ≡ true → serialization-edge log (transaction log e) (transaction log f) ≡ true
-  unfolding serialization-edge conflict conflicts-before
+  unfolding serialization-edge conflict gives-conflict
   write-then-use e f l m d w u =
       rw (ne-eqb (transaction log e) (transaction log f) d)
-      (of-hit log (transaction log e) (λ g. conflicts-before log g (transaction log f)) e (omega arith) (by-own log e)
+      (of-hit log (transaction log e) (λ g. gives-conflict log g (transaction log f)) e (omega arith) (by-own log e)
       (after-hit log e (transaction log f) (conflicting log e) f l m (by-own log f) (conflicts-with-write log e w f ∙ u)))
 
   -- another's write, between an own write of a copy and a read of it, would come after the own one and before it

@@ -10,9 +10,9 @@ use borrow.Author.Tests.{eq-eqb}
 use Rattle.sets.specs.Search.{some-from}
 use Rattle.sets.proofs.Truth.{either, clash, and-always, and-nothing, or-hit-right}
 use Rattle.log.specs.Record.{records, copy-of, is-by, is-read, is-write, writes-copy}
-use Rattle.edges.specs.Order.{some-after}
-use Rattle.edges.specs.Reasons.{uses-copy, on-same-copy, conflicting, conflicts-before}
-use Rattle.edges.proofs.Orders.{after-found}
+use Rattle.edges.specs.Records.{some-after}
+use Rattle.edges.specs.Reasons.{uses-copy, on-same-copy, conflicting, gives-conflict}
+use Rattle.edges.proofs.Records.{after-found}
 
 module _ (log : List ℕ) (e : ℕ) where
   -- which copy a record uses
@@ -57,17 +57,17 @@ module _ (log : List ℕ) (e : ℕ) where
   same-after j p q h = λ i. some-from (e + 1) (records log) (λ f. is-by log f j && h f i)
 
   pub read-conflicts : is-read log e ≡ true → is-write log e ≡ false → (j : ℕ)
-      → conflicts-before log e j ≡ some-from (e + 1) (records log) (λ f. is-by log f j && writes-copy log f (copy-of log e))
-  unfolding conflicts-before
+      → gives-conflict log e j ≡ some-from (e + 1) (records log) (λ f. is-by log f j && writes-copy log f (copy-of log e))
+  unfolding gives-conflict
   read-conflicts r w j = same-after j (conflicting log e) (λ f. writes-copy log f (copy-of log e)) (conflicts-with-read r w)
 
   pub write-conflicts : is-write log e ≡ true → (j : ℕ)
-      → conflicts-before log e j ≡ some-from (e + 1) (records log) (λ f. is-by log f j && uses-copy log f (copy-of log e))
-  unfolding conflicts-before
+      → gives-conflict log e j ≡ some-from (e + 1) (records log) (λ f. is-by log f j && uses-copy log f (copy-of log e))
+  unfolding gives-conflict
   write-conflicts w j = same-after j (conflicting log e) (λ f. uses-copy log f (copy-of log e)) (conflicts-with-write w)
 
-  pub none-conflicts : is-read log e ≡ false → is-write log e ≡ false → (j : ℕ) → conflicts-before log e j ≡ false
-  unfolding conflicts-before
+  pub none-conflicts : is-read log e ≡ false → is-write log e ≡ false → (j : ℕ) → gives-conflict log e j ≡ false
+  unfolding gives-conflict
   none-conflicts r w j = go (either (some-after log e j (conflicting log e)))
     where
       go : (some-after log e j (conflicting log e) ≡ true) ⊎ (some-after log e j (conflicting log e) ≡ false) → some-after log e j (conflicting log e) ≡ false

@@ -7,22 +7,22 @@ use mathlib.Core.Option.{Option, none, some}
 use Rattle.log.specs.Record.{transaction, item, is-write}
 use Rattle.log.specs.Source.{source-record, its-transaction, source}
 use Rattle.log.proofs.Sources.{source-of}
-use Rattle.edges.specs.Order.{later-writer}
-use Rattle.edges.specs.Reasons.{of-source, writes-before, reads-before}
+use Rattle.edges.specs.Order.{writer-after}
+use Rattle.edges.specs.Reasons.{of-source, gives-write-order, gives-read-before}
 
 module _ (log : List ℕ) (e j : ℕ) where
-  pub write-puts : is-write log e ≡ true → writes-before log e j ≡ later-writer log (item log e) (transaction log e) j
-  unfolding writes-before
-  write-puts w = rw w refl
+  pub write-gives : is-write log e ≡ true → gives-write-order log e j ≡ writer-after log (item log e) (transaction log e) j
+  unfolding gives-write-order
+  write-gives w = rw w refl
 
-  pub other-puts : is-write log e ≡ false → writes-before log e j ≡ false
-  unfolding writes-before
-  other-puts w = rw w refl
+  pub other-gives : is-write log e ≡ false → gives-write-order log e j ≡ false
+  unfolding gives-write-order
+  other-gives w = rw w refl
 
-  pub read-puts : (f : ℕ) → source-record log e ≡ some f → reads-before log e j ≡ later-writer log (item log e) (transaction log f) j
-  unfolding reads-before
-  read-puts f h = ap (λ (o : Option ℕ). of-source o (λ s. later-writer log (item log e) s j)) (source-of log e f h)
+  pub read-gives : (f : ℕ) → source-record log e ≡ some f → gives-read-before log e j ≡ writer-after log (item log e) (transaction log f) j
+  unfolding gives-read-before
+  read-gives f h = ap (λ (o : Option ℕ). of-source o (λ s. writer-after log (item log e) s j)) (source-of log e f h)
 
-  pub sourceless-puts : source-record log e ≡ none → reads-before log e j ≡ false
-  unfolding reads-before source
-  sourceless-puts h = ap (λ (o : Option ℕ). of-source (its-transaction log o) (λ s. later-writer log (item log e) s j)) h
+  pub sourceless-gives : source-record log e ≡ none → gives-read-before log e j ≡ false
+  unfolding gives-read-before source
+  sourceless-gives h = ap (λ (o : Option ℕ). of-source (its-transaction log o) (λ s. writer-after log (item log e) s j)) h

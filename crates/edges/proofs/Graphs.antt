@@ -17,12 +17,13 @@ use Rattle.log.specs.Record.{transactions, transaction, item, is-write, in-log}
 use Rattle.log.specs.Refusal.{check-answer}
 use Rattle.log.specs.Source.{source}
 use Rattle.log.proofs.Passed.{in-log-hit, passed-low}
-use Rattle.edges.specs.Order.{later-writer}
-use Rattle.edges.specs.Reasons.{of-source, conflicting, conflicts-before, writes-before, reads-before, conflict, write-order}
+use Rattle.edges.specs.Order.{writer-after}
+use Rattle.edges.specs.Reasons.{of-source, conflicting, gives-conflict, gives-write-order, gives-read-before, conflict, write-order}
 use Rattle.edges.specs.Reasons.{read-before}
 use Rattle.edges.specs.Reasons.{edge, lowest, reason, members, edge-table}
 use Rattle.edges.specs.Table.{any-reason, lowest-in}
-use Rattle.edges.proofs.Orders.{of-found, after-found, later-found, writes-in-log}
+use Rattle.edges.proofs.Records.{of-found, after-found}
+use Rattle.edges.proofs.Orders.{writer-after-found, writes-in-log}
 
 -- past the end of three tables there are no edges
 pub past-all : (first second third : List ℕ) → length first ≡ transactions → length second ≡ transactions → length third ≡ transactions
@@ -35,30 +36,30 @@ module _ (log : List ℕ) (i j : ℕ) where
   abbrev Both : Type 0
   Both = (in-log log i ≡ true) × (in-log log j ≡ true)
 
-  later-in-log : (x s : ℕ) → later-writer log x s j ≡ true → in-log log j ≡ true
-  later-in-log x s h = writes-in-log log j x (later-found log x s j h .writer)
+  later-in-log : (x s : ℕ) → writer-after log x s j ≡ true → in-log log j ≡ true
+  later-in-log x s h = writes-in-log log j x (writer-after-found log x s j h .writer)
 
   conflict-in-log : conflict log i j ≡ true → Both
-  unfolding conflict conflicts-before
+  unfolding conflict gives-conflict
   conflict-in-log h =
-      let w = of-found log i (λ e. conflicts-before log e j) h in
+      let w = of-found log i (λ e. gives-conflict log e j) h in
       let v = after-found log (w .0) j (conflicting log (w .0)) (w .3) in
       (in-log-hit log i (w .0) (w .1) (w .2), in-log-hit log j (v .0) (v .2) (v .3))
 
   write-order-in-log : write-order log i j ≡ true → Both
-  unfolding write-order writes-before
+  unfolding write-order gives-write-order
   write-order-in-log h =
-      let w = of-found log i (λ e. writes-before log e j) h in
+      let w = of-found log i (λ e. gives-write-order log e j) h in
       let e = w .0 in
-      (in-log-hit log i e (w .1) (w .2), later-in-log (item log e) (transaction log e) (and-right (is-write log e) (later-writer log (item log e) (transaction log e) j) (w .3)))
+      (in-log-hit log i e (w .1) (w .2), later-in-log (item log e) (transaction log e) (and-right (is-write log e) (writer-after log (item log e) (transaction log e) j) (w .3)))
 
   read-before-in-log : read-before log i j ≡ true → Both
-  unfolding read-before reads-before
+  unfolding read-before gives-read-before
   read-before-in-log h =
-      let w = of-found log i (λ e. reads-before log e j) h in
+      let w = of-found log i (λ e. gives-read-before log e j) h in
       (in-log-hit log i (w .0) (w .1) (w .2), go (w .0) (source log (w .0)) (w .3))
     where
-      go : (e : ℕ) (o : Option ℕ) → of-source o (λ s. later-writer log (item log e) s j) ≡ true → in-log log j ≡ true
+      go : (e : ℕ) (o : Option ℕ) → of-source o (λ s. writer-after log (item log e) s j) ≡ true → in-log log j ≡ true
       go e (some s) q = later-in-log (item log e) s q
       go e none q = absurd (true≢false (sym q))
 

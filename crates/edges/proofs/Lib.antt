@@ -1,6 +1,8 @@
+pub mod Records
 pub mod Orders
 pub mod Steps
 pub mod Whole
+pub mod KeptOrders
 pub mod Conflicts
 pub mod Given
 pub mod Graphs

@@ -1,3 +1,4 @@
+pub mod Records
 pub mod Order
 pub mod Reasons
 pub mod Table

@@ -9,7 +9,8 @@ use Rattle.log.specs.Answer.{Answer, gives, refused, row, _then_}
 use Rattle.log.specs.Record.{transactions, transaction, item, is-read, is-write, copy-of, in-log}
 use Rattle.log.specs.Refusal.{check-answer}
 use Rattle.log.specs.Source.{source}
-use Rattle.edges.specs.Order.{some-of, some-after, later-writer}
+use Rattle.edges.specs.Records.{some-of, some-after}
+use Rattle.edges.specs.Order.{writer-after}
 
 -- record e uses the copy c: reads it or writes it. A commit has item 0 and site 0 and uses no copy.
 unfoldable pub uses-copy : List ℕ → ℕ → ℕ → Bool
@@ -25,30 +26,30 @@ conflicting log e f = on-same-copy log e f && (is-write log e || is-write log f)
 
 -- What a record e of transaction i says of an edge from i to j, for each reason.
 -- 1. "a record of i stands before a record of j, both on the same copy, at least one a write"
-unfoldable pub conflicts-before : List ℕ → ℕ → ℕ → Bool
-conflicts-before log e j = some-after log e j (conflicting log e)
+unfoldable pub gives-conflict : List ℕ → ℕ → ℕ → Bool
+gives-conflict log e j = some-after log e j (conflicting log e)
 
 -- 2. "both write one item, and i comes before j in its write order"
-unfoldable pub writes-before : List ℕ → ℕ → ℕ → Bool
-writes-before log e j = is-write log e && later-writer log (item log e) (transaction log e) j
+unfoldable pub gives-write-order : List ℕ → ℕ → ℕ → Bool
+gives-write-order log e j = is-write log e && writer-after log (item log e) (transaction log e) j
 
 -- 3. "i has a read of some item with source s, j writes that item, j is not s, and s comes before j in the write order"
 abbrev pub of-source : Option ℕ → (ℕ → Bool) → Bool
 of-source (some s) p = p s
 of-source none p = false
 
-unfoldable pub reads-before : List ℕ → ℕ → ℕ → Bool
-reads-before log e j = of-source (source log e) (λ s. later-writer log (item log e) s j)
+unfoldable pub gives-read-before : List ℕ → ℕ → ℕ → Bool
+gives-read-before log e j = of-source (source log e) (λ s. writer-after log (item log e) s j)
 
 -- the three reasons
 unfoldable pub conflict : List ℕ → ℕ → ℕ → Bool
-conflict log i j = some-of log i (λ e. conflicts-before log e j)
+conflict log i j = some-of log i (λ e. gives-conflict log e j)
 
 unfoldable pub write-order : List ℕ → ℕ → ℕ → Bool
-write-order log i j = some-of log i (λ e. writes-before log e j)
+write-order log i j = some-of log i (λ e. gives-write-order log e j)
 
 unfoldable pub read-before : List ℕ → ℕ → ℕ → Bool
-read-before log i j = some-of log i (λ e. reads-before log e j)
+read-before log i j = some-of log i (λ e. gives-read-before log e j)
 
 -- "There is an edge from i to j, i and j different, for these reasons"
 unfoldable pub edge : List ℕ → ℕ → ℕ → Bool

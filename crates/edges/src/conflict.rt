@@ -5,10 +5,10 @@ ghost use Rattle.sets.specs.Bits.{has, Holds};
 ghost use Rattle.log.specs.Answer.{passed};
 ghost use Rattle.log.specs.Record.{Within, transactions};
 ghost use Rattle.log.specs.Refusal.{check-answer};
-ghost use Rattle.edges.specs.Reasons.{conflicts-before, conflict};
-ghost use Rattle.edges.specs.Kept.{Empty, KeptUsers, KeptWriters};
-use crate::table::add_edges;
-use log::record::COMMIT;
+ghost use Rattle.edges.specs.Reasons.{gives-conflict, conflict};
+ghost use Rattle.edges.specs.Kept.{Empty, LaterUsers, LaterWriters};
+use crate::table::add_own;
+use crate::table::add_to_row;
 use log::record::Copy;
 use log::record::READ;
 use log::record::TRANSACTIONS;
@@ -16,7 +16,6 @@ use log::record::WRITE;
 use log::record::copy_at;
 use log::record::kind_at;
 use log::record::record_count;
-use log::record::transaction_at;
 
 // The transactions with a later record that conflicts with record k: of a read the later writers of its copy, of a write all that
 // use it later.
@@ -27,9 +26,9 @@ fn conflicting_later(
     writers: &[u64; Copy::COPIES],
 ) -> u64
     requires { ⌜ Within (now log) k ⌝ }
-    requires { ⌜ KeptUsers (now log) (k + 1) (now users) ⌝ }
-    requires { ⌜ KeptWriters (now log) (k + 1) (now writers) ⌝ }
-    ensures { λ r. ⌜ ((j : ℕ) → has r j ≡ conflicts-before (now (log .entry)) k j) ⌝ }
+    requires { ⌜ LaterUsers (now log) (k + 1) (now users) ⌝ }
+    requires { ⌜ LaterWriters (now log) (k + 1) (now writers) ⌝ }
+    ensures { λ r. ⌜ ((j : ℕ) → has r j ≡ gives-conflict (now (log .entry)) k j) ⌝ }
 {
     let kind = kind_at(log, k);
     if kind == READ {
@@ -43,28 +42,27 @@ fn conflicting_later(
 
 // Keeps a read or a write: its transaction is a user of its copy.
 fn keep_user(log: &[u8], k: usize, users: &mut [u64; Copy::COPIES])
-    requires { ⌜ check-answer (now log) ≡ passed ⌝ }
     requires { ⌜ Within (now log) k ⌝ }
-    requires { ⌜ KeptUsers (now log) (k + 1) (now users) ⌝ }
-    ensures { λ r. ⌜ KeptUsers (now (log .entry)) k (now (users .exit)) ⌝ }
+    requires { ⌜ LaterUsers (now log) (k + 1) (now users) ⌝ }
+    ensures { λ r. ⌜ LaterUsers (now (log .entry)) k (now (users .exit)) ⌝ }
 {
-    if kind_at(log, k) != COMMIT {
-        let t = transaction_at(log, k);
-        let c = copy_at(log, k);
-        users[c] = sets::with_member(users[c], t);
+    let kind = kind_at(log, k);
+    if kind != READ {
+        if kind != WRITE {
+            return;
+        }
     }
+    add_own(log, k, copy_at(log, k), users);
 }
 
 // Keeps a write: its transaction is a writer of its copy.
 fn keep_writer(log: &[u8], k: usize, writers: &mut [u64; Copy::COPIES])
     requires { ⌜ Within (now log) k ⌝ }
-    requires { ⌜ KeptWriters (now log) (k + 1) (now writers) ⌝ }
-    ensures { λ r. ⌜ KeptWriters (now (log .entry)) k (now (writers .exit)) ⌝ }
+    requires { ⌜ LaterWriters (now log) (k + 1) (now writers) ⌝ }
+    ensures { λ r. ⌜ LaterWriters (now (log .entry)) k (now (writers .exit)) ⌝ }
 {
     if kind_at(log, k) == WRITE {
-        let t = transaction_at(log, k);
-        let c = copy_at(log, k);
-        writers[c] = sets::with_member(writers[c], t);
+        add_own(log, k, copy_at(log, k), writers);
     }
 }
 
@@ -80,7 +78,7 @@ pub(crate) fn conflicts(log: &[u8], table: &mut [u64; TRANSACTIONS])
     while 0 < k {
         k -= 1;
         let later = conflicting_later(log, k, &users, &writers);
-        add_edges(log, k, later, table);
+        add_to_row(log, k, later, table);
         keep_user(log, k, &mut users);
         keep_writer(log, k, &mut writers);
     }

@@ -5,9 +5,10 @@ ghost use Rattle.sets.specs.Bits.{has};
 ghost use Rattle.log.specs.Answer.{passed};
 ghost use Rattle.log.specs.Record.{Within, transactions, items, item, in-log};
 ghost use Rattle.log.specs.Refusal.{check-answer};
-ghost use Rattle.edges.specs.Order.{later-writer, commits-before};
-ghost use Rattle.edges.specs.Kept.{Empty, KeptItems, KeptEdges, KeptCommits, KeptOrder};
-use crate::table::add_edges;
+ghost use Rattle.edges.specs.Order.{writer-after, is-earlier-commit};
+ghost use Rattle.edges.specs.Kept.{Empty, LaterItemWriters, LaterRows, LaterCommits, KeptOrder};
+use crate::table::add_own;
+use crate::table::add_to_row;
 use log::record::COMMIT;
 use log::record::Copy;
 use log::record::TRANSACTIONS;
@@ -20,26 +21,24 @@ use log::record::transaction_at;
 // Keeps a write: its transaction is a writer of its item.
 fn keep_writer(log: &[u8], k: usize, writers: &mut [u64; Copy::ITEMS])
     requires { ⌜ Within (now log) k ⌝ }
-    requires { ⌜ KeptItems (now log) (k + 1) (now writers) ⌝ }
-    ensures { λ r. ⌜ KeptItems (now (log .entry)) k (now (writers .exit)) ⌝ }
+    requires { ⌜ LaterItemWriters (now log) (k + 1) (now writers) ⌝ }
+    ensures { λ r. ⌜ LaterItemWriters (now (log .entry)) k (now (writers .exit)) ⌝ }
 {
     if kind_at(log, k) == WRITE {
-        let t = transaction_at(log, k);
-        let x = item_at(log, k);
-        writers[x] = sets::with_member(writers[x], t);
+        add_own(log, k, item_at(log, k), writers);
     }
 }
 
 // Keeps a commit: all that commit later come after its transaction, which then is one of them.
 fn keep_commit(log: &[u8], k: usize, later: u64, after: &mut [u64; TRANSACTIONS]) -> u64
     requires { ⌜ Within (now log) k ⌝ }
-    requires { ⌜ KeptCommits (now log) (k + 1) later ⌝ }
-    requires { ⌜ KeptEdges (now log) (commits-before (now log)) (k + 1) (now after) ⌝ }
-    ensures { λ r. ⌜ KeptCommits (now (log .entry)) k r ⌝ }
-    ensures { λ r. ⌜ KeptEdges (now (log .entry)) (commits-before (now (log .entry))) k (now (after .exit)) ⌝ }
+    requires { ⌜ LaterCommits (now log) (k + 1) later ⌝ }
+    requires { ⌜ LaterRows (now log) (is-earlier-commit (now log)) (k + 1) (now after) ⌝ }
+    ensures { λ r. ⌜ LaterCommits (now (log .entry)) k r ⌝ }
+    ensures { λ r. ⌜ LaterRows (now (log .entry)) (is-earlier-commit (now (log .entry))) k (now (after .exit)) ⌝ }
 {
     if kind_at(log, k) == COMMIT {
-        add_edges(log, k, later, after);
+        add_to_row(log, k, later, after);
         return sets::with_member(later, transaction_at(log, k));
     }
     later
@@ -68,7 +67,7 @@ pub(crate) fn keep_order(
 }
 
 // The writers of record k's item that come after s in its write order.
-pub(crate) fn later_writers(
+pub(crate) fn writers_after(
     log: &[u8],
     k: usize,
     s: usize,
@@ -79,7 +78,7 @@ pub(crate) fn later_writers(
     requires { ⌜ Within (now log) k ⌝ }
     requires { ⌜ s < transactions ⌝ }
     requires { ⌜ KeptOrder (now log) (now writers) (now after) ⌝ }
-    ensures { λ r. ⌜ ((j : ℕ) → has r j ≡ later-writer (now (log .entry)) (item (now (log .entry)) k) s j) ⌝ }
+    ensures { λ r. ⌜ ((j : ℕ) → has r j ≡ writer-after (now (log .entry)) (item (now (log .entry)) k) s j) ⌝ }
 {
     let x = item_at(log, k);
     sets::common(writers[x], after[s])

@@ -5,10 +5,10 @@ ghost use Rattle.sets.specs.Bits.{has, Holds};
 ghost use Rattle.log.specs.Answer.{passed};
 ghost use Rattle.log.specs.Record.{Within, transactions};
 ghost use Rattle.log.specs.Refusal.{check-answer};
-ghost use Rattle.edges.specs.Reasons.{writes-before, reads-before, write-order, read-before};
+ghost use Rattle.edges.specs.Reasons.{gives-write-order, gives-read-before, write-order, read-before};
 ghost use Rattle.edges.specs.Kept.{Empty, KeptOrder};
-use crate::order::later_writers;
-use crate::table::add_edges;
+use crate::order::writers_after;
+use crate::table::add_to_row;
 use log::record::Copy;
 use log::record::TRANSACTIONS;
 use log::record::WRITE;
@@ -19,7 +19,7 @@ use log::source::Found;
 use log::source::source_record;
 
 // The transactions that record k puts after its own by reason 2.
-fn written_later(
+fn after_by_order(
     log: &[u8],
     k: usize,
     writers: &[u64; Copy::ITEMS],
@@ -28,17 +28,17 @@ fn written_later(
     requires { ⌜ check-answer (now log) ≡ passed ⌝ }
     requires { ⌜ Within (now log) k ⌝ }
     requires { ⌜ KeptOrder (now log) (now writers) (now after) ⌝ }
-    ensures { λ r. ⌜ ((j : ℕ) → has r j ≡ writes-before (now (log .entry)) k j) ⌝ }
+    ensures { λ r. ⌜ ((j : ℕ) → has r j ≡ gives-write-order (now (log .entry)) k j) ⌝ }
 {
     if kind_at(log, k) == WRITE {
         let t = transaction_at(log, k);
-        return later_writers(log, k, t, writers, after);
+        return writers_after(log, k, t, writers, after);
     }
     0
 }
 
 // The transactions that record k puts after its own by reason 3: those that write its item after its source.
-fn written_after_source(
+fn after_by_read(
     log: &[u8],
     k: usize,
     writers: &[u64; Copy::ITEMS],
@@ -47,12 +47,12 @@ fn written_after_source(
     requires { ⌜ check-answer (now log) ≡ passed ⌝ }
     requires { ⌜ Within (now log) k ⌝ }
     requires { ⌜ KeptOrder (now log) (now writers) (now after) ⌝ }
-    ensures { λ r. ⌜ ((j : ℕ) → has r j ≡ reads-before (now (log .entry)) k j) ⌝ }
+    ensures { λ r. ⌜ ((j : ℕ) → has r j ≡ gives-read-before (now (log .entry)) k j) ⌝ }
 {
     match source_record(log, k) {
         Found::At(e) => {
             let s = transaction_at(log, e);
-            later_writers(log, k, s, writers, after)
+            writers_after(log, k, s, writers, after)
         }
         Found::None => 0,
     }
@@ -77,12 +77,7 @@ pub(crate) fn order_edges(
     let mut k = record_count(log);
     while 0 < k {
         k -= 1;
-        add_edges(log, k, written_later(log, k, writers, after), by_order);
-        add_edges(
-            log,
-            k,
-            written_after_source(log, k, writers, after),
-            by_read,
-        );
+        add_to_row(log, k, after_by_order(log, k, writers, after), by_order);
+        add_to_row(log, k, after_by_read(log, k, writers, after), by_read);
     }
 }

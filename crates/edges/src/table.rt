@@ -1,22 +1,33 @@
-// Tables of edges: 64 sets of transactions, bit j of number i for an edge from i to j.
+// Tables of sets of transactions: how a record is kept in one; and tables of edges, in which bit j of number i is for an edge from i
+// to j.
 ghost use mathlib.Core.Path.{_≡_};
 ghost use Prim.Native.Nat.{_<_};
 ghost use lib.ListN.{length};
 ghost use Rattle.sets.specs.Bits.{Holds};
 ghost use Rattle.log.specs.Record.{Within, transactions};
 ghost use Rattle.edges.specs.Table.{any-reason, lowest-in};
-ghost use Rattle.edges.specs.Kept.{Added};
+ghost use Rattle.edges.specs.Kept.{AddedOwn, AddedToRow};
 use log::record::TRANSACTIONS;
 use log::record::transaction_at;
 
-// Adds the edges that record k gives: from its transaction to each of the set.
-pub(crate) fn add_edges(log: &[u8], k: usize, later: u64, table: &mut [u64; TRANSACTIONS])
+// The transaction of record k joins the set at c.
+pub(crate) fn add_own(log: &[u8], k: usize, c: usize, table: &mut [u64])
     requires { ⌜ Within (now log) k ⌝ }
-    requires { ⌜ length (now table) ≡ transactions ⌝ }
-    ensures { λ r. ⌜ Added (now (log .entry)) k later (now (table .entry)) (now (table .exit)) ⌝ }
+    requires { ⌜ c < length (now table) ⌝ }
+    ensures { λ r. ⌜ AddedOwn (now (log .entry)) k c (now (table .entry)) (now (table .exit)) ⌝ }
 {
     let t = transaction_at(log, k);
-    table[t] = sets::union(table[t], later);
+    table[c] = sets::with_member(table[c], t);
+}
+
+// The set joins the row of record k's transaction.
+pub(crate) fn add_to_row(log: &[u8], k: usize, to: u64, table: &mut [u64; TRANSACTIONS])
+    requires { ⌜ Within (now log) k ⌝ }
+    requires { ⌜ length (now table) ≡ transactions ⌝ }
+    ensures { λ r. ⌜ AddedToRow (now (log .entry)) k to (now (table .entry)) (now (table .exit)) ⌝ }
+{
+    let t = transaction_at(log, k);
+    table[t] = sets::union(table[t], to);
 }
 
 // The lowest reason of an edge from i to j, by the edges of each reason.

@@ -9,15 +9,15 @@ use lib.ListN.{replicate}
 use denote.Ref.{now}
 use Rattle.log.specs.Record.{Within, items, sites, records, writes-copy}
 use Rattle.log.proofs.Passed.{passed-within}
-use Rattle.edges.specs.Reasons.{uses-copy, conflicts-before}
-use Rattle.edges.specs.Kept.{KeptEdges, KeptUsers, KeptWriters}
-use Rattle.edges.proofs.Steps.{empty-table, back-one, edges-start, edges-add, later-start}
-use Rattle.edges.proofs.Whole.{conflicts-whole}
+use Rattle.edges.specs.Reasons.{uses-copy, gives-conflict}
+use Rattle.edges.specs.Kept.{LaterRows, LaterUsers, LaterWriters}
+use Rattle.edges.proofs.Steps.{empty-table, back-one, rows-start, rows-add, later-start}
+use Rattle.edges.proofs.Whole.{conflict-whole}
 use Rattle.edges.proofs.conflict.conflicts.Statement.{statement}
 use Rattle.edges.proofs.conflict.conflicts.Tie as tie
 
 abbrev Kept : List ℕ → List ℕ → List ℕ → List ℕ → ℕ → Type 0
-Kept log table users writers k = (k ≤ records log) × KeptEdges log (conflicts-before log) k table × KeptUsers log k users × KeptWriters log k writers
+Kept log table users writers k = (k ≤ records log) × LaterRows log (gives-conflict log) k table × LaterUsers log k users × LaterWriters log k writers
 
 abbrev Inv-loop : tie.InvT-loop
 Inv-loop log table₀ users₀ writers₀ k₀ table users writers k = Kept log table users writers k
@@ -35,7 +35,7 @@ loop-holds c =
     let n = items * sites in
     subst (Kept log (now (s .args .table)) (replicate n 0) (replicate n 0)) (sym (c .record-count .ensures)) (
       omega arith,
-      edges-start log (conflicts-before log) (s .pre .1),
+      rows-start log (gives-conflict log) (s .pre .1),
       later-start log (uses-copy log) n (empty-table n),
       later-start log (writes-copy log) n (empty-table n),
     )
@@ -54,11 +54,11 @@ module _ (c : tie.In-loop Inv-loop μ-loop) where
   next : (P : ℕ → Type 0) → P k → P (k - 1 + 1)
   next P = back-one P k (c .loop-test .taken)
 
-  next-users : KeptUsers log (k - 1 + 1) (c .before .loop .users)
-  next-users = next (λ x. KeptUsers log x (c .before .loop .users)) (c .before .loop .inv .2)
+  next-users : LaterUsers log (k - 1 + 1) (c .before .loop .users)
+  next-users = next (λ x. LaterUsers log x (c .before .loop .users)) (c .before .loop .inv .2)
 
-  next-writers : KeptWriters log (k - 1 + 1) (c .before .loop .writers)
-  next-writers = next (λ x. KeptWriters log x (c .before .loop .writers)) (c .before .loop .inv .3)
+  next-writers : LaterWriters log (k - 1 + 1) (c .before .loop .writers)
+  next-writers = next (λ x. LaterWriters log x (c .before .loop .writers)) (c .before .loop .inv .3)
 
 sub-k : tie.Need-sub-k Inv-loop μ-loop
 sub-k c = omega arith
@@ -66,13 +66,13 @@ sub-k c = omega arith
 conflicting-later-requires : tie.Need-conflicting-later-requires Inv-loop μ-loop
 conflicting-later-requires c κs = let t = c .before .before in (right t, (next-users t, next-writers t))
 
-add-edges-requires : tie.Need-add-edges-requires Inv-loop μ-loop
-add-edges-requires c κs = let t = c .before .before .before .before in (right t, t .before .loop .inv .1 .whole)
+add-to-row-requires : tie.Need-add-to-row-requires Inv-loop μ-loop
+add-to-row-requires c κs = let t = c .before .before .before .before in (right t, t .before .loop .inv .1 .whole)
 
 keep-user-requires : tie.Need-keep-user-requires Inv-loop μ-loop
 keep-user-requires c κs =
     let t = c .before .before .before .before .before .before in
-    (t .before .before .before .before .pre .0, (right t, next-users t))
+    (right t, next-users t)
 
 keep-writer-requires : tie.Need-keep-writer-requires Inv-loop μ-loop
 keep-writer-requires c κs = let t = c .before .before .before .before .before .before .before .before in (right t, next-writers t)
@@ -88,8 +88,8 @@ loop-again c =
     let t = at-later .before .before .before in
     let l = t .before .loop in (
       omega (arith, l .inv .0),
-      edges-add (log t) (k t - 1) (right t .there) (conflicts-before (log t)) (l .table) (at-edges .add-edges .last .1 .1 .1 .0) (at-later .conflicting-later .result)
-          (next t (λ x. KeptEdges (log t) (conflicts-before (log t)) x (l .table)) (l .inv .1)) (at-later .conflicting-later .ensures) (at-edges .add-edges .ensures),
+      rows-add (log t) (k t - 1) (right t .there) (gives-conflict (log t)) (at-later .conflicting-later .result)
+          (next t (λ x. LaterRows (log t) (gives-conflict (log t)) x (l .table)) (l .inv .1)) (at-later .conflicting-later .ensures) (at-edges .add-to-row .ensures),
       at-user .keep-user .ensures,
       c .keep-writer .ensures,
     )
@@ -99,7 +99,7 @@ returns c =
     let log = now (c .before .before .before .before .args .log) in
     let l = c .before .loop in
     let at-zero : l .k ≡ 0 = omega (arith, c .loop-test .left) in
-    conflicts-whole log (l .table) (subst (λ x. KeptEdges log (conflicts-before log) x (l .table)) at-zero (l .inv .1))
+    conflict-whole log (subst (λ x. LaterRows log (gives-conflict log) x (l .table)) at-zero (l .inv .1))
 
 pub conflicts-spec : {M : Type 1} → statement M
 conflicts-spec =
@@ -111,7 +111,7 @@ conflicts-spec =
     loop-holds
     sub-k
     conflicting-later-requires
-    add-edges-requires
+    add-to-row-requires
     keep-user-requires
     keep-writer-requires
     loop-less

@@ -1,5 +1,4 @@
 -- `edges::graph::edges_by_reason` meets its contract: it hands on what the passes promise. Assumes nothing.
-use borrow.Author.Needs.{needs}
 use denote.Ref.{now}
 use Rattle.log.specs.Record.{items, transactions}
 use Rattle.edges.proofs.Steps.{empty-table}
@@ -8,19 +7,22 @@ use Rattle.edges.proofs.graph.edges_by_reason.Statement.{statement}
 use Rattle.edges.proofs.graph.edges_by_reason.Tie as tie
 
 keep-order-requires : tie.Need-keep-order-requires
-keep-order-requires c κs = let s = c .before .before .before in (s .pre .0, (empty-table items, empty-table transactions))
+keep-order-requires c κs = let s = c .before .before .before .before .before .before in (s .pre, (empty-table items, empty-table transactions))
 
 conflicts-requires : tie.Need-conflicts-requires
-conflicts-requires c κs = search needs
+conflicts-requires c κs = let s = c .before .before .before .before .before .before .before .before in (s .pre, empty-table transactions)
 
 order-edges-requires : tie.Need-order-edges-requires
-order-edges-requires c κs = search needs
+order-edges-requires c κs =
+    let at-order = c .before .before .before .before .before .before in
+    let s = at-order .before .before .before .before .before .before .before in
+    (s .pre, (at-order .keep-order .ensures .0, (empty-table transactions, empty-table transactions)))
 
 returns : tie.Need-returns
 returns c = let at-conflicts = c .before .before .before .before .before in
     let at-order = at-conflicts .before .before in
-    let s = at-order .before .before .before .before in
-    (only-members (now (s .args .log)) (s .pre .0) (at-order .keep-order .result) (at-order .keep-order .ensures .1), (at-conflicts .conflicts .ensures, c .order-edges .ensures))
+    let s = at-order .before .before .before .before .before .before .before in
+    (only-members (now (s .args .log)) (s .pre) (at-order .keep-order .result) (at-order .keep-order .ensures .1), (at-conflicts .conflicts .ensures, c .order-edges .ensures))
 
 pub edges-by-reason-spec : {M : Type 1} → statement M
 edges-by-reason-spec =

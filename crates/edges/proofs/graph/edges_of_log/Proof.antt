@@ -9,7 +9,7 @@ use Rattle.edges.proofs.graph.edges_of_log.Statement.{statement}
 use Rattle.edges.proofs.graph.edges_of_log.Tie as tie
 
 edges-by-reason-requires : tie.Need-edges-by-reason-requires
-edges-by-reason-requires c κs = let s = c .before .before .before .before in (s .pre, (empty-table transactions, (empty-table transactions, empty-table transactions)))
+edges-by-reason-requires c κs = let s = c .before .before .before .before in s .pre
 
 joined-requires : tie.Need-joined-requires
 joined-requires c κs = search needs

@@ -9,7 +9,7 @@ use Rattle.edges.proofs.graph.reason_between.Statement.{statement}
 use Rattle.edges.proofs.graph.reason_between.Tie as tie
 
 edges-by-reason-requires : tie.Need-edges-by-reason-requires
-edges-by-reason-requires c κs = let s = c .before .before .before .before in (s .pre .0, (empty-table transactions, (empty-table transactions, empty-table transactions)))
+edges-by-reason-requires c κs = let s = c .before .before .before .before in s .pre .0
 
 lowest-reason-requires : tie.Need-lowest-reason-requires
 lowest-reason-requires c κs = search needs

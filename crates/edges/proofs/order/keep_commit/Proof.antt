@@ -3,16 +3,17 @@
 use borrow.Author.Needs.{needs}
 use denote.Ref.{now}
 use Rattle.log.proofs.KindBytes.{byte-is, byte-is-not, commit-byte}
-use Rattle.edges.specs.Order.{commits-before}
-use Rattle.edges.proofs.Steps.{edges-add, edges-stay, commits-add, commits-stay, commit-before, other-before}
+use Rattle.edges.specs.Order.{is-earlier-commit}
+use Rattle.edges.proofs.Steps.{rows-add, rows-stay}
+use Rattle.edges.proofs.KeptOrders.{commits-add, commits-stay, earlier-commit-kept, no-earlier-commit}
 use Rattle.edges.proofs.order.keep_commit.Statement.{statement}
 use Rattle.edges.proofs.order.keep_commit.Tie as tie
 
 kind-at-requires : tie.Need-kind-at-requires
 kind-at-requires c κs = search needs
 
-add-edges-requires : tie.Need-add-edges-requires
-add-edges-requires c κs = search needs
+add-to-row-requires : tie.Need-add-to-row-requires
+add-to-row-requires c κs = search needs
 
 transaction-at-requires : tie.Need-transaction-at-requires
 transaction-at-requires c κs = search needs
@@ -31,10 +32,10 @@ returns c = let at-transaction = c .before in
     let later = s .args .later in
     let there = s .pre .0 .there in
     let commits = byte-is (commit-byte log k) (at-kind .kind-at .ensures) (at-test .if1 .taken) in (
-      commits-add log k there later (at-transaction .transaction-at .result) (c .with-member .result) (s .pre .1 .0) commits
+      commits-add log k there (s .pre .1 .0) (at-transaction .transaction-at .result) (c .with-member .result) commits
           (at-transaction .transaction-at .ensures .0) (c .with-member .ensures),
-      edges-add log k there (commits-before log) (now (s .args .after)) (at-edges .add-edges .last .1 .1 .1 .0) later (s .pre .1 .1)
-          (λ j. commit-before log k there later j (s .pre .1 .0) commits) (at-edges .add-edges .ensures),
+      rows-add log k there (is-earlier-commit log) later (s .pre .1 .1)
+          (λ j. earlier-commit-kept log k later j (s .pre .1 .0) commits) (at-edges .add-to-row .ensures),
     )
 
 returns-2 : tie.Need-returns-2
@@ -43,8 +44,8 @@ returns-2 c = let s = c .before .before .before in
     let k = s .args .k in
     let there = s .pre .0 .there in
     let other = byte-is-not (commit-byte log k) (c .before .kind-at .ensures) (c .if1 .left) in (
-      commits-stay log k there (s .args .later) (s .pre .1 .0) other,
-      edges-stay log k there (commits-before log) (now (s .args .after)) (s .pre .1 .1) (λ j. other-before log k there j other),
+      commits-stay log k there (s .pre .1 .0) other,
+      rows-stay log k there (is-earlier-commit log) (s .pre .1 .1) (λ j. no-earlier-commit log k j other),
     )
 
 pub keep-commit-spec : {M : Type 1} → statement M
@@ -52,7 +53,7 @@ keep-commit-spec =
     tie.close
     (tie.spec
     kind-at-requires
-    add-edges-requires
+    add-to-row-requires
     transaction-at-requires
     with-member-requires
     returns

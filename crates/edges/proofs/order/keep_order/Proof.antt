@@ -7,16 +7,16 @@ use Prim.Native.Nat.{ℕ, _-_, _≤_}
 use denote.Ref.{now}
 use Rattle.log.specs.Record.{Within, items, records, writes-item}
 use Rattle.log.proofs.Passed.{passed-within}
-use Rattle.edges.specs.Order.{commits-before}
-use Rattle.edges.specs.Kept.{KeptItems, KeptEdges, KeptCommits}
-use Rattle.edges.proofs.Steps.{back-one, later-start, edges-start, commits-start}
-use Rattle.edges.proofs.Whole.{order-whole, members-whole}
+use Rattle.edges.specs.Order.{is-earlier-commit}
+use Rattle.edges.specs.Kept.{LaterItemWriters, LaterRows, LaterCommits}
+use Rattle.edges.proofs.Steps.{back-one, later-start, rows-start}
+use Rattle.edges.proofs.KeptOrders.{commits-start, order-whole, members-whole}
 use Rattle.edges.proofs.order.keep_order.Statement.{statement}
 use Rattle.edges.proofs.order.keep_order.Tie as tie
 
 abbrev Kept : List ℕ → List ℕ → List ℕ → ℕ → ℕ → Type 0
 Kept log writers after committed k =
-    (k ≤ records log) × KeptItems log k writers × KeptCommits log k committed × KeptEdges log (commits-before log) k after
+    (k ≤ records log) × LaterItemWriters log k writers × LaterCommits log k committed × LaterRows log (is-earlier-commit log) k after
 
 abbrev Inv-loop : tie.InvT-loop
 Inv-loop log writers₀ after₀ committed₀ k₀ writers after committed k = Kept log writers after committed k
@@ -35,7 +35,7 @@ loop-holds c =
       omega arith,
       later-start log (writes-item log) items (s .pre .1 .0),
       commits-start log,
-      edges-start log (commits-before log) (s .pre .1 .1),
+      rows-start log (is-earlier-commit log) (s .pre .1 .1),
     )
 
 -- in a turn
@@ -55,7 +55,7 @@ sub-k c = omega arith
 keep-writer-requires : tie.Need-keep-writer-requires Inv-loop μ-loop
 keep-writer-requires c κs =
     let t = c .before in
-    (right t, back-one (λ x. KeptItems (log t) x (t .before .loop .writers)) (k t) (t .loop-test .taken) (t .before .loop .inv .1))
+    (right t, back-one (λ x. LaterItemWriters (log t) x (t .before .loop .writers)) (k t) (t .loop-test .taken) (t .before .loop .inv .1))
 
 keep-commit-requires : tie.Need-keep-commit-requires Inv-loop μ-loop
 keep-commit-requires c κs =
@@ -63,8 +63,8 @@ keep-commit-requires c κs =
     let l = t .before .loop in (
       right t,
       (
-        back-one (λ x. KeptCommits (log t) x (l .committed)) (k t) (t .loop-test .taken) (l .inv .2),
-        back-one (λ x. KeptEdges (log t) (commits-before (log t)) x (l .after)) (k t) (t .loop-test .taken) (l .inv .3),
+        back-one (λ x. LaterCommits (log t) x (l .committed)) (k t) (t .loop-test .taken) (l .inv .2),
+        back-one (λ x. LaterRows (log t) (is-earlier-commit (log t)) x (l .after)) (k t) (t .loop-test .taken) (l .inv .3),
       ),
     )
 
@@ -87,7 +87,7 @@ returns c =
     let log = now (s .args .log) in
     let l = c .before .loop in
     let kept = subst (Kept log (l .writers) (l .after) (l .committed)) (at-zero c) (l .inv) in
-    (order-whole log (l .writers) (l .after) (kept .1) (kept .3), members-whole log (s .pre .0) (l .committed) (kept .2))
+    (order-whole log (kept .1) (kept .3), members-whole log (s .pre .0) (kept .2))
 
 pub keep-order-spec : {M : Type 1} → statement M
 keep-order-spec =

@@ -1,11 +1,10 @@
--- `edges::order::keep_writer` meets its contract: a write adds its transaction to the writers of its item, and no other record adds
--- anything. Assumes nothing.
+-- `edges::order::keep_writer` meets its contract: a write adds its transaction to the writers of its item. Assumes nothing.
 use borrow.Author.Needs.{needs}
-use Prim.Native.Nat.{ℕ}
+use Prim.Native.Nat.{ℕ, _*_}
 use lib.Dec.{eqb}
 use mathlib.Core.Path.{_∙_, sym, ap}
 use denote.Ref.{now}
-use Rattle.log.specs.Record.{items, writes-item}
+use Rattle.log.specs.Record.{writes-item}
 use Rattle.log.proofs.KindBytes.{byte-is, byte-is-not, write-byte, item-writes, item-silent}
 use Rattle.edges.proofs.Steps.{later-add, later-stay}
 use Rattle.edges.proofs.order.keep_writer.Statement.{statement}
@@ -14,57 +13,28 @@ use Rattle.edges.proofs.order.keep_writer.Tie as tie
 kind-at-requires : tie.Need-kind-at-requires
 kind-at-requires c κs = search needs
 
-transaction-at-requires : tie.Need-transaction-at-requires
-transaction-at-requires c κs = search needs
-
 item-at-requires : tie.Need-item-at-requires
 item-at-requires c κs = search needs
 
-mul-with-member : tie.Need-mul-with-member
-mul-with-member c = search needs
-
-element-copy-out-with-member : tie.Need-element-copy-out-with-member
-element-copy-out-with-member c = search needs
-
-with-member-requires : tie.Need-with-member-requires
-with-member-requires c κs = search needs
-
-mul-writers : tie.Need-mul-writers
-mul-writers c = search needs
-
-element-write-writers : tie.Need-element-write-writers
-element-write-writers c = search needs
+add-own-requires : tie.Need-add-own-requires
+add-own-requires c κs = let at-place = c .before in let s = at-place .before .before .before .before in (s .pre .0, rw (s .pre .1 .whole) (at-place .item-at .ensures .1))
 
 returns : tie.Need-returns
 returns c = let at-place = c .before .before in
-    let at-transaction = at-place .before in
-    let at-kind = at-transaction .before .before in
-    let s = at-kind .before .before in
+    let at-test = at-place .before in
+    let s = at-test .before .before .before in
     let log = now (s .args .log) in
     let k = s .args .k in
-    let writes = byte-is (write-byte log k) (at-kind .kind-at .ensures) (at-transaction .before .if1 .taken) in
-    later-add log k (s .pre .0 .there) (writes-item log) items (now (s .args .writers)) (s .pre .1) (at-place .item-at .result) (at-transaction .transaction-at .result) (c .with-member .result)
-    (at-place .item-at .ensures .1) (λ d. item-writes log k writes d ∙ ap (λ (y : ℕ). eqb y d) (sym (at-place .item-at .ensures .0)))
-    (at-transaction .transaction-at .ensures .0) (c .with-member .ensures)
+    let writes = byte-is (write-byte log k) (at-test .before .kind-at .ensures) (at-test .if1 .taken) in
+    later-add log k (s .pre .0 .there) (writes-item log) (at-place .item-at .result) (s .pre .1)
+    (λ d. item-writes log k writes d ∙ ap (λ (y : ℕ). eqb y d) (sym (at-place .item-at .ensures .0))) (c .add-own .ensures)
 
 returns-2 : tie.Need-returns-2
 returns-2 c = let s = c .before .before .before in
     let log = now (s .args .log) in
     let k = s .args .k in
-    later-stay log k (s .pre .0 .there) (writes-item log) items (now (s .args .writers)) (s .pre .1)
-    (item-silent log k (byte-is-not (write-byte log k) (c .before .kind-at .ensures) (c .if1 .left)))
+    later-stay log k (s .pre .0 .there) (writes-item log) (s .pre .1) (item-silent log k (byte-is-not (write-byte log k) (c .before .kind-at .ensures) (c .if1 .left)))
 
 pub keep-writer-spec : {M : Type 1} → statement M
 keep-writer-spec =
-    tie.close
-    (tie.spec
-    kind-at-requires
-    transaction-at-requires
-    item-at-requires
-    mul-with-member
-    element-copy-out-with-member
-    with-member-requires
-    mul-writers
-    element-write-writers
-    returns
-    returns-2)
+    tie.close (tie.spec kind-at-requires item-at-requires add-own-requires returns returns-2)

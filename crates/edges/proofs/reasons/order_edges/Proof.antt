@@ -8,15 +8,15 @@ use Prim.Native.Nat.{ℕ, _+_, _-_, _≤_}
 use denote.Ref.{now}
 use Rattle.log.specs.Record.{Within, records}
 use Rattle.log.proofs.Passed.{passed-within}
-use Rattle.edges.specs.Reasons.{writes-before, reads-before}
-use Rattle.edges.specs.Kept.{KeptEdges}
-use Rattle.edges.proofs.Steps.{back-one, edges-add, edges-start}
-use Rattle.edges.proofs.Whole.{write-orders-whole, reads-before-whole}
+use Rattle.edges.specs.Reasons.{gives-write-order, gives-read-before}
+use Rattle.edges.specs.Kept.{LaterRows}
+use Rattle.edges.proofs.Steps.{back-one, rows-add, rows-start}
+use Rattle.edges.proofs.Whole.{write-order-whole, read-before-whole}
 use Rattle.edges.proofs.reasons.order_edges.Statement.{statement}
 use Rattle.edges.proofs.reasons.order_edges.Tie as tie
 
 abbrev Kept : List ℕ → List ℕ → List ℕ → ℕ → Type 0
-Kept log by-order by-read k = (k ≤ records log) × KeptEdges log (writes-before log) k by-order × KeptEdges log (reads-before log) k by-read
+Kept log by-order by-read k = (k ≤ records log) × LaterRows log (gives-write-order log) k by-order × LaterRows log (gives-read-before log) k by-read
 
 abbrev Inv-loop : tie.InvT-loop
 Inv-loop log writers after by-order₀ by-read₀ k₀ by-order by-read k = Kept log by-order by-read k
@@ -32,7 +32,7 @@ loop-holds c =
     let s = c .before .before in
     let log = now (s .args .log) in
     subst (Kept log (now (s .args .by-order)) (now (s .args .by-read))) (sym (c .record-count .ensures))
-    (omega arith, edges-start log (writes-before log) (s .pre .1 .1 .0), edges-start log (reads-before log) (s .pre .1 .1 .1))
+    (omega arith, rows-start log (gives-write-order log) (s .pre .1 .1 .0), rows-start log (gives-read-before log) (s .pre .1 .1 .1))
 
 -- in a turn
 module _ (c : tie.In-loop Inv-loop μ-loop) where
@@ -45,26 +45,26 @@ module _ (c : tie.In-loop Inv-loop μ-loop) where
   right : Within log (k - 1)
   right = passed-within log (c .before .before .before .before .pre .0) (k - 1) (omega (arith, c .before .loop .inv .0))
 
-  next : (gives-edge : ℕ → ℕ → Bool) (table : List ℕ) → KeptEdges log gives-edge k table → KeptEdges log gives-edge (k - 1 + 1) table
-  next gives-edge table = back-one (λ x. KeptEdges log gives-edge x table) k (c .loop-test .taken)
+  next : (says : ℕ → ℕ → Bool) (table : List ℕ) → LaterRows log says k table → LaterRows log says (k - 1 + 1) table
+  next says table = back-one (λ x. LaterRows log says x table) k (c .loop-test .taken)
 
 sub-k : tie.Need-sub-k Inv-loop μ-loop
 sub-k c = omega arith
 
-written-later-requires : tie.Need-written-later-requires Inv-loop μ-loop
-written-later-requires c κs = let s = c .before .before .before .before in (s .pre .0, (right c, s .pre .1 .0))
+after-by-order-requires : tie.Need-after-by-order-requires Inv-loop μ-loop
+after-by-order-requires c κs = let s = c .before .before .before .before in (s .pre .0, (right c, s .pre .1 .0))
 
-add-edges-requires : tie.Need-add-edges-requires Inv-loop μ-loop
-add-edges-requires c κs = let t = c .before .before in (right t, t .before .loop .inv .1 .whole)
+add-to-row-requires : tie.Need-add-to-row-requires Inv-loop μ-loop
+add-to-row-requires c κs = let t = c .before .before in (right t, t .before .loop .inv .1 .whole)
 
-written-after-source-requires : tie.Need-written-after-source-requires Inv-loop μ-loop
-written-after-source-requires c κs =
+after-by-read-requires : tie.Need-after-by-read-requires Inv-loop μ-loop
+after-by-read-requires c κs =
     let t = c .before .before .before in
     let s = t .before .before .before .before in
     (s .pre .0, (right t, s .pre .1 .0))
 
-add-edges-requires-2 : tie.Need-add-edges-requires-2 Inv-loop μ-loop
-add-edges-requires-2 c κs = let t = c .before .before .before .before .before in (right t, t .before .loop .inv .2 .whole)
+add-to-row-requires-2 : tie.Need-add-to-row-requires-2 Inv-loop μ-loop
+add-to-row-requires-2 c κs = let t = c .before .before .before .before .before in (right t, t .before .loop .inv .2 .whole)
 
 loop-less : tie.Need-loop-less Inv-loop μ-loop
 loop-less c = omega arith
@@ -77,10 +77,10 @@ loop-again c =
     let t = at-later .before in
     let l = t .before .loop in (
       omega (arith, l .inv .0),
-      edges-add (log t) (k t - 1) (right t .there) (writes-before (log t)) (l .by-order) (at-first .add-edges .last .1 .1 .1 .0) (at-later .written-later .result)
-          (next t (writes-before (log t)) (l .by-order) (l .inv .1)) (at-later .written-later .ensures) (at-first .add-edges .ensures),
-      edges-add (log t) (k t - 1) (right t .there) (reads-before (log t)) (l .by-read) (c .add-edges2 .last .1 .1 .1 .0) (at-source .written-after-source .result)
-          (next t (reads-before (log t)) (l .by-read) (l .inv .2)) (at-source .written-after-source .ensures) (c .add-edges2 .ensures),
+      rows-add (log t) (k t - 1) (right t .there) (gives-write-order (log t)) (at-later .after-by-order .result)
+          (next t (gives-write-order (log t)) (l .by-order) (l .inv .1)) (at-later .after-by-order .ensures) (at-first .add-to-row .ensures),
+      rows-add (log t) (k t - 1) (right t .there) (gives-read-before (log t)) (at-source .after-by-read .result)
+          (next t (gives-read-before (log t)) (l .by-read) (l .inv .2)) (at-source .after-by-read .ensures) (c .add-to-row2 .ensures),
     )
 
 returns : tie.Need-returns Inv-loop μ-loop
@@ -89,7 +89,7 @@ returns c =
     let l = c .before .loop in
     let at-zero : l .k ≡ 0 = omega (arith, c .loop-test .left) in
     let kept = subst (Kept log (l .by-order) (l .by-read)) at-zero (l .inv) in
-    (write-orders-whole log (l .by-order) (kept .1), reads-before-whole log (l .by-read) (kept .2))
+    (write-order-whole log (kept .1), read-before-whole log (kept .2))
 
 pub order-edges-spec : {M : Type 1} → statement M
 order-edges-spec =
@@ -100,10 +100,10 @@ order-edges-spec =
     record-count-requires
     loop-holds
     sub-k
-    written-later-requires
-    add-edges-requires
-    written-after-source-requires
-    add-edges-requires-2
+    after-by-order-requires
+    add-to-row-requires
+    after-by-read-requires
+    add-to-row-requires-2
     loop-less
     loop-again
     returns)

@@ -1,4 +1,4 @@
--- `edges::table::add_edges` meets its contract: one row is stored, the old one with the set joined to it. Assumes nothing.
+-- `edges::table::add_to_row` meets its contract: one row is stored, the old one with the set joined to it. Assumes nothing.
 use borrow.Author.Needs.{needs}
 use Prim.Native.Nat.{ℕ}
 use lib.Dec.{eqb}
@@ -8,8 +8,8 @@ use denote.Ref.{now}
 use Rattle.sets.specs.Bits.{has, in-row, Holds}
 use Rattle.sets.proofs.Tables.{holds-store}
 use Rattle.log.specs.Record.{transactions, is-by}
-use Rattle.edges.proofs.table.add_edges.Statement.{statement}
-use Rattle.edges.proofs.table.add_edges.Tie as tie
+use Rattle.edges.proofs.table.add_to_row.Statement.{statement}
+use Rattle.edges.proofs.table.add_to_row.Tie as tie
 
 transaction-at-requires : tie.Need-transaction-at-requires
 transaction-at-requires c κs = search needs
@@ -35,14 +35,14 @@ returns c =
     let at-transaction = c .before .before in
     let s = at-transaction .before .before in
     let old = now (s .args .table) in
-    let later = s .args .later in
+    let to = s .args .to in
     let t = at-transaction .transaction-at in
     let as-lent : Holds transactions (in-row old) old = record { whole = s .pre .1; said = λ i j. refl } in
-    holds-store as-lent (t .result) (c .union .result) (has later) (t .ensures .1) (c .union .ensures)
-    (λ i j. ap (λ (x : ℕ). in-row old i j || (eqb x i && has later j)) (sym (t .ensures .0)))
+    holds-store as-lent (t .result) (c .union .result) (has to) (t .ensures .1) (c .union .ensures)
+    (λ i j. ap (λ (x : ℕ). in-row old i j || (eqb x i && has to j)) (sym (t .ensures .0)))
 
-pub add-edges-spec : {M : Type 1} → statement M
-add-edges-spec =
+pub add-to-row-spec : {M : Type 1} → statement M
+add-to-row-spec =
     tie.close
     (tie.spec
     transaction-at-requires

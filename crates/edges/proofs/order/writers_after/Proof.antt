@@ -1,13 +1,13 @@
--- `edges::order::later_writers` meets its contract: the writers of the item among those that commit after s. Assumes nothing.
+-- `edges::order::writers_after` meets its contract: the writers of the item among those that commit after s. Assumes nothing.
 use borrow.Author.Needs.{needs}
 use mathlib.Core.Path.{_∙_, sym, ap, ap₂}
 use mathlib.Core.Bool.{_&&_}
 use denote.Ref.{now}
 use Rattle.log.specs.Record.{item}
 use Rattle.edges.specs.Order.{writes}
-use Rattle.edges.proofs.Orders.{later-writer-kept}
-use Rattle.edges.proofs.order.later_writers.Statement.{statement}
-use Rattle.edges.proofs.order.later_writers.Tie as tie
+use Rattle.edges.proofs.KeptOrders.{writer-after-kept}
+use Rattle.edges.proofs.order.writers_after.Statement.{statement}
+use Rattle.edges.proofs.order.writers_after.Tie as tie
 
 item-at-requires : tie.Need-item-at-requires
 item-at-requires c κs = search needs
@@ -36,10 +36,10 @@ returns c j =
     let kept = s .pre .1 .1 .1 in
     c .common .ensures j
     ∙ ap₂ _&&_ (kept .item-writers .said (at-item .item-at .result) j ∙ ap (writes log j) (at-item .item-at .ensures .0)) (kept .later-commits .said (s .args .s) j)
-    ∙ sym (later-writer-kept log (s .pre .0) x (s .args .s) j)
+    ∙ writer-after-kept log (s .pre .0) x (s .args .s) j
 
-pub later-writers-spec : {M : Type 1} → statement M
-later-writers-spec =
+pub writers-after-spec : {M : Type 1} → statement M
+writers-after-spec =
     tie.close
     (tie.spec
     item-at-requires

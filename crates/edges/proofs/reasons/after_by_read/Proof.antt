@@ -1,4 +1,4 @@
--- `edges::reasons::written_after_source` meets its contract: the source is a transaction in the log, and what has none puts none after
+-- `edges::reasons::after_by_read` meets its contract: the source is a transaction in the log, and what has none puts none after
 -- its transaction. Assumes nothing.
 use borrow.Author.Needs.{needs}
 use native.Mathlib.Omega.{arith}
@@ -12,10 +12,10 @@ use Rattle.log.specs.Source.{source-record}
 use Rattle.log.specs.Numbers.{found-says}
 use Rattle.log.proofs.Sources.{sourced}
 use Rattle.log.proofs.Passed.{passed-within}
-use Rattle.edges.specs.Order.{later-writer}
-use Rattle.edges.proofs.Given.{read-puts, sourceless-puts}
-use Rattle.edges.proofs.reasons.written_after_source.Statement.{statement}
-use Rattle.edges.proofs.reasons.written_after_source.Tie as tie
+use Rattle.edges.specs.Order.{writer-after}
+use Rattle.edges.proofs.Given.{read-gives, sourceless-gives}
+use Rattle.edges.proofs.reasons.after_by_read.Statement.{statement}
+use Rattle.edges.proofs.reasons.after_by_read.Tie as tie
 
 -- where the walk back has found the source's place
 module _ (c : tie.After-e) where
@@ -41,8 +41,8 @@ transaction-at-requires c κs =
     let f = sourced log (s .args .k) (place (c .before)) (found (c .before)) in
     passed-within log (s .pre .0) (place (c .before)) (omega (arith, f .earlier, s .pre .1 .0 .there))
 
-later-writers-requires : tie.Need-later-writers-requires
-later-writers-requires c κs = search needs
+writers-after-requires : tie.Need-writers-after-requires
+writers-after-requires c κs = search needs
 
 enum-told : tie.Need-enum-told
 enum-told c = search needs
@@ -54,24 +54,24 @@ returns c j =
     let s = e .before .before .before .before in
     let log = now (s .args .log) in
     let k = s .args .k in
-    c .later-writers .ensures j
-    ∙ ap (λ (t : ℕ). later-writer log (item log k) t j) (at-transaction .transaction-at .ensures .0)
-    ∙ sym (read-puts log k j (place e) (found e))
+    c .writers-after .ensures j
+    ∙ ap (λ (t : ℕ). writer-after log (item log k) t j) (at-transaction .transaction-at .ensures .0)
+    ∙ sym (read-gives log k j (place e) (found e))
 
 returns-2 : tie.Need-returns-2
 returns-2 c j =
     let at-source = c .before .before in
     let s = at-source .before .before in
-    has-zero j ∙ sym (sourceless-puts (now (s .args .log)) (s .args .k) j (sym (at-source .source-record .ensures) ∙ ap found-says (c .enum-told .given .1)))
+    has-zero j ∙ sym (sourceless-gives (now (s .args .log)) (s .args .k) j (sym (at-source .source-record .ensures) ∙ ap found-says (c .enum-told .given .1)))
 
-pub written-after-source-spec : {M : Type 1} → statement M
-written-after-source-spec =
+pub after-by-read-spec : {M : Type 1} → statement M
+after-by-read-spec =
     tie.close
     (tie.spec
     source-record-requires
     enum-known-e
     transaction-at-requires
-    later-writers-requires
+    writers-after-requires
     enum-told
     returns
     returns-2)
