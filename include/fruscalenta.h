@@ -30,7 +30,7 @@ struct fruscalenta_answer fruscalenta_check(const uint8_t *log, size_t len);
 struct fruscalenta_answer fruscalenta_source_of_record(const uint8_t *log, size_t len, size_t k);
 
 /* The edge from transaction i to transaction j: the lowest of its reasons 1 to 3; or 0 where there is none, where i equals j, or where
- * either is not in the log. Numbers 1, 2, 4 to 9, then 10. */
+ * either is not in the log. Numbers 1, 2, 4 to 9, then 10. A question costs a reading of the whole log. */
 struct fruscalenta_answer fruscalenta_edge_between(const uint8_t *log, size_t len, size_t i, size_t j);
 
 #ifdef __cplusplus

@@ -1,5 +1,5 @@
--- The chapter's two conditions and its Lemma 8.1, for every log that passes. The conditions hold where the graph has no cycle: of two
--- writers one comes first, which is an edge; and where a path would run the other way, the two would make a cycle. Assumes nothing.
+-- The chapter's two conditions and its Lemma 8.1, for every log that passes. Of two writers one comes first, which is an edge; and so is
+-- one from a reader of the first to the second. Where a path would run the other way, it would make a cycle. Assumes nothing.
 use Prim.Native.Nat.{ℕ, _<_}
 use native.Mathlib.Omega.{arith}
 use native.Mathlib.Decide.{ℕ-discrete, decLt}
@@ -21,9 +21,10 @@ use Rattle.log.proofs.Passed.{by-own, by-same, same-copy, writes-copy-found, wr
 use Rattle.edges.specs.Order.{writes, comes-before, writer-after}
 use Rattle.edges.specs.Reasons.{of-source, uses-copy, conflicting, gives-conflict, gives-write-order, gives-read-before, conflict}
 use Rattle.edges.specs.Reasons.{write-order, read-before, edge}
-use Rattle.edges.specs.Chapter.{serialization-edge, ReadsFrom, RDSG}
+use Rattle.edges.specs.Chapter.{serialization-edge, ReadsFrom, InducesWriteOrder, InducesReadOrder, RDSG}
 use Rattle.edges.proofs.Records.{of-hit, after-hit}
 use Rattle.edges.proofs.Orders.{writes-found, writes-hit, writer-after-hit, one-comes-first}
+use Rattle.edges.proofs.Graphs.{edge-in-log}
 use Rattle.edges.proofs.Conflicts.{use-of-read, use-of-write, conflicts-with-write}
 
 module _ (log : List ℕ) where
@@ -63,38 +64,11 @@ module _ (log : List ℕ) where
       let at-record : of-source (source log e) (λ s. writer-after log (item log e) s k) ≡ true = rw (r .from, r .of-item) later in
       read-before-edge j k (λ q. f (sym q)) (of-hit log j (λ g. gives-read-before log g k) e (r .there) (r .its-own) at-record)
 
-module _ (log : List ℕ) (sound : check-answer log ≡ passed) where
-  -- the source of a read writes the item that is read
-  source-writes : (x j i e : ℕ) → ReadsFrom log x j i e → writes log i x ≡ true
-  unfolding source
-  source-writes x j i e r = go (source-record log e) refl (r .from)
-    where
-      go : (o : Option ℕ) → source-record log e ≡ o → its-transaction log o ≡ some i → writes log i x ≡ true
-      go none q h = let z : _≡_ {A = ℕ} 0 1 = cc in absurd (omega arith)
-      go (some f) q h =
-          let s = sourced log e f q in
-          let same : transaction log f ≡ i = cc in
-          let there : f < records log = omega (arith, s .earlier, r .there) in
-          let w = writes-copy-found log f (copy-of log e) (s .writes) in
-          let one-item = same-copy log f e (passed-within log sound f there) (passed-within log sound e (r .there)) (w .1) .0 in
-          writes-hit log i x f there (rw (← same) (by-own log f)) (w .0) (one-item ∙ r .of-item)
-
-  -- THEOREM: where the graph has no cycle it is an RDSG
-  pub acyclic-is-RDSG : Acyclic (edge log) → RDSG log (edge log)
+  -- so it has every edge of SG
+  extends-SG : (i j : ℕ) → serialization-edge log i j ≡ true → edge log i j ≡ true
   unfolding serialization-edge
-  acyclic-is-RDSG acyclic =
-      record {
-        extends-SG = λ i j h.
-            conflict-edge log i j (eqb-false i j (not-true (eqb i j) (and-left (not (eqb i j)) (conflict log i j) h))) (and-right (not (eqb i j)) (conflict log i j) h);
-        induces-write-order = λ x i k v w d.
-            ⊎-elim (λ (h : comes-before log x i k ≡ true). inl (by-edge (ordered-edge log x i k v w d h)))
-            (λ (h : comes-before log x k i ≡ true). inr (by-edge (ordered-edge log x k i w v (λ q. d (sym q)) h)))
-            (one-comes-first log sound x i k v w d);
-        induces-read-order = λ x i j k e r w d f p.
-            ⊎-elim (λ (h : comes-before log x i k ≡ true). by-edge (reader-edge log x i j k e r w d f h))
-            (λ (h : comes-before log x k i ≡ true). absurd (acyclic k (edge-then (ordered-edge log x k i w (source-writes x j i e r) d h) p)))
-            (one-comes-first log sound x i k (source-writes x j i e r) w (λ q. d (sym q)));
-      }
+  extends-SG i j h =
+      conflict-edge i j (eqb-false i j (not-true (eqb i j) (and-left (not (eqb i j)) (conflict log i j) h))) (and-right (not (eqb i j)) (conflict log i j) h)
 
   -- a write before a use of its copy by another is an edge of SG
   write-then-use : (e f : ℕ) → e < f → f < records log → (transaction log e ≡ transaction log f → ⊥) → is-write log e ≡ true
@@ -117,21 +91,63 @@ module _ (log : List ℕ) (sound : check-answer log ≡ passed) where
       let back = write-then-use f k b l other (second .0) (use-of-read log k r (copy-of log f) ∙ eq-eqb (copy-of log k) (copy-of log f) (sym (second .1))) in
       acyclic (transaction log k) (edge-then there (by-edge back))
 
+module _ (log : List ℕ) (sound : check-answer log ≡ passed) where
+  -- the source of a read writes the item that is read
+  source-writes : (x j i e : ℕ) → ReadsFrom log x j i e → writes log i x ≡ true
+  unfolding source
+  source-writes x j i e r = go (source-record log e) refl (r .from)
+    where
+      go : (o : Option ℕ) → source-record log e ≡ o → its-transaction log o ≡ some i → writes log i x ≡ true
+      go none q h = let z : _≡_ {A = ℕ} 0 1 = cc in absurd (omega arith)
+      go (some f) q h =
+          let s = sourced log e f q in
+          let same : transaction log f ≡ i = cc in
+          let there : f < records log = omega (arith, s .earlier, r .there) in
+          let w = writes-copy-found log f (copy-of log e) (s .writes) in
+          let one-item = same-copy log f e (passed-within log sound f there) (passed-within log sound e (r .there)) (w .1) .0 in
+          writes-hit log i x f there (rw (← same) (by-own log f)) (w .0) (one-item ∙ r .of-item)
+
+  -- THEOREM: the graph induces a write order, with cycles or without
+  pub induces-write-order : InducesWriteOrder log (edge log)
+  induces-write-order x i k v w d =
+      ⊎-elim (λ (h : comes-before log x i k ≡ true). inl (by-edge (ordered-edge log x i k v w d h)))
+      (λ (h : comes-before log x k i ≡ true). inr (by-edge (ordered-edge log x k i w v (λ q. d (sym q)) h)))
+      (one-comes-first log sound x i k v w d)
+
+  -- THEOREM: where it has no cycle it induces a read order ..
+  pub induces-read-order : Acyclic (edge log) → InducesReadOrder log (edge log)
+  induces-read-order acyclic x i j k e r w d f p =
+      let v = source-writes x j i e r in
+      ⊎-elim (λ (h : comes-before log x i k ≡ true). by-edge (reader-edge log x i j k e r w d f h))
+      (λ (h : comes-before log x k i ≡ true). absurd (acyclic k (edge-then (ordered-edge log x k i w v d h) p)))
+      (one-comes-first log sound x i k v w (λ q. d (sym q)))
+
+  -- .. and so is an RDSG
+  pub acyclic-is-RDSG : Acyclic (edge log) → RDSG log (edge log)
+  acyclic-is-RDSG acyclic =
+      record {
+        of-its-transactions = edge-in-log log;
+        extends-SG = extends-SG log;
+        write-order = induces-write-order;
+        read-order = induces-read-order acyclic;
+      }
+
   -- THEOREM: Lemma 8.1. "If SG(H) is acyclic and for some x wi[x] <i ri[x], then Ti reads-x-from Ti in H"
   pub lemma-8-1 : Acyclic (serialization-edge log) → (k : ℕ) → k < records log → is-read log k ≡ true
-      → wrote-item log (transaction log k) (item log k) k ≡ true → source log k ≡ some (transaction log k)
+      → wrote-item log (transaction log k) (item log k) k ≡ true → ReadsFrom log (item log k) (transaction log k) (transaction log k) k
   lemma-8-1 acyclic k l r w =
       let t = transaction log k in
       let own = wrote-copy-found log t (copy-of log k) k (passed-own log sound k l r w) in
       let e = own .0 in
       let found = passed-source log sound k l r in
-      go e (found .0) (own .1) (by-same log e t (and-left (is-by log e t) (writes-copy log e (copy-of log k)) (own .2)))
-      (and-right (is-by log e t) (writes-copy log e (copy-of log k)) (own .2)) (found .1) (found .2) (ℕ-discrete (transaction log (found .0)) t) (decLt e (found .0))
+      let own-source = go e (found .0) (own .1) (by-same log e t (and-left (is-by log e t) (writes-copy log e (copy-of log k)) (own .2)))
+      (and-right (is-by log e t) (writes-copy log e (copy-of log k)) (own .2)) (found .1) (found .2) (ℕ-discrete (transaction log (found .0)) t) (decLt e (found .0)) in
+      record { there = l; its-own = by-own log k; of-item = refl; from = own-source }
     where
       go : (e f : ℕ) → e < k → transaction log e ≡ transaction log k → writes-copy log e (copy-of log k) ≡ true → source-record log k ≡ some f
           → Sourced log k f → Dec (transaction log f ≡ transaction log k) → Dec (e < f) → source log k ≡ some (transaction log k)
       go e f a b c q s (yes h) d = source-of log k f q ∙ ap some h
-      go e f a b c q s (no h) (yes d) = absurd (between acyclic e f k l r d (s .earlier) c (s .writes) b h)
+      go e f a b c q s (no h) (yes d) = absurd (between log acyclic e f k l r d (s .earlier) c (s .writes) b h)
       go e f a b c q s (no h) (no d) = absurd (clash (writes-copy log e (copy-of log k)) c (s .between e (later (ℕ-discrete e f)) a))
         where
           later : Dec (e ≡ f) → f < e

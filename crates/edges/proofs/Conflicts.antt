@@ -10,9 +10,17 @@ use borrow.Author.Tests.{eq-eqb}
 use Rattle.sets.specs.Search.{some-from}
 use Rattle.sets.proofs.Truth.{either, clash, and-always, and-nothing, or-hit-right}
 use Rattle.log.specs.Record.{records, copy-of, is-by, is-read, is-write, writes-copy}
+use Rattle.log.proofs.KindBytes.{read-no-write}
 use Rattle.edges.specs.Records.{some-after}
 use Rattle.edges.specs.Reasons.{uses-copy, on-same-copy, conflicting, gives-conflict}
 use Rattle.edges.proofs.Records.{after-found}
+
+-- of the users of a copy those that write it
+users-write : (r w s : Bool) → (((r || w) && s) && w) ≡ (w && s)
+users-write true true s = and-always s
+users-write false true s = and-always s
+users-write true false s = and-nothing s
+users-write false false s = refl
 
 module _ (log : List ℕ) (e : ℕ) where
   -- which copy a record uses
@@ -31,17 +39,10 @@ module _ (log : List ℕ) (e : ℕ) where
   own : ((c : ℕ) → uses-copy log e c ≡ eqb (copy-of log e) c) → uses-copy log e (copy-of log e) ≡ true
   own u = u (copy-of log e) ∙ eq-eqb (copy-of log e) (copy-of log e) refl
 
-  -- of the users of a copy those that write it
-  users-write : (r w s : Bool) → (((r || w) && s) && w) ≡ (w && s)
-  users-write true true s = and-always s
-  users-write false true s = and-always s
-  users-write true false s = and-nothing s
-  users-write false false s = refl
-
-  conflicts-with-read : is-read log e ≡ true → is-write log e ≡ false → (f : ℕ) → conflicting log e f ≡ writes-copy log f (copy-of log e)
+  conflicts-with-read : is-read log e ≡ true → (f : ℕ) → conflicting log e f ≡ writes-copy log f (copy-of log e)
   unfolding conflicting on-same-copy writes-copy uses-copy
-  conflicts-with-read r w f =
-      rw (r, w, eq-eqb (copy-of log e) (copy-of log e) refl) (users-write (is-read log f) (is-write log f) (eqb (copy-of log f) (copy-of log e)))
+  conflicts-with-read r f =
+      rw (r, read-no-write log e r, eq-eqb (copy-of log e) (copy-of log e) refl) (users-write (is-read log f) (is-write log f) (eqb (copy-of log f) (copy-of log e)))
 
   pub conflicts-with-write : is-write log e ≡ true → (f : ℕ) → conflicting log e f ≡ uses-copy log f (copy-of log e)
   unfolding conflicting on-same-copy
@@ -56,10 +57,10 @@ module _ (log : List ℕ) (e : ℕ) where
   unfolding some-after
   same-after j p q h = λ i. some-from (e + 1) (records log) (λ f. is-by log f j && h f i)
 
-  pub read-conflicts : is-read log e ≡ true → is-write log e ≡ false → (j : ℕ)
+  pub read-conflicts : is-read log e ≡ true → (j : ℕ)
       → gives-conflict log e j ≡ some-from (e + 1) (records log) (λ f. is-by log f j && writes-copy log f (copy-of log e))
   unfolding gives-conflict
-  read-conflicts r w j = same-after j (conflicting log e) (λ f. writes-copy log f (copy-of log e)) (conflicts-with-read r w)
+  read-conflicts r j = same-after j (conflicting log e) (λ f. writes-copy log f (copy-of log e)) (conflicts-with-read r)
 
   pub write-conflicts : is-write log e ≡ true → (j : ℕ)
       → gives-conflict log e j ≡ some-from (e + 1) (records log) (λ f. is-by log f j && uses-copy log f (copy-of log e))

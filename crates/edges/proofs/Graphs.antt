@@ -31,13 +31,24 @@ pub past-all : (first second third : List ℕ) → length first ≡ transactions
 past-all first second third a b c i j l =
     rw (row-past first i j (rw a l), row-past second i j (rw b l), row-past third i j (rw c l), and-nothing (not (eqb i j))) refl
 
+-- the lowest of three reasons is 0 exactly where none applies
+lowest-zero : (a b c : Bool) → (lowest a b c ≡ 0) ↔ ((a || b || c) ≡ false)
+lowest-zero true b c = (λ h. absurd (omega arith), λ h. absurd (true≢false h))
+lowest-zero false true c = (λ h. absurd (omega arith), λ h. absurd (true≢false h))
+lowest-zero false false true = (λ h. absurd (omega arith), λ h. absurd (true≢false h))
+lowest-zero false false false = (λ h. refl, λ h. refl)
+
+nothing : (b : Bool) → _≡_ {A = ℕ} (cond b 0 0) 0
+nothing true = refl
+nothing false = refl
+
+later-in-log : (log : List ℕ) (x s j : ℕ) → writer-after log x s j ≡ true → in-log log j ≡ true
+later-in-log log x s j h = writes-in-log log j x (writer-after-found log x s j h .writer)
+
 module _ (log : List ℕ) (i j : ℕ) where
   -- each reason is one for two transactions in the log
   abbrev Both : Type 0
   Both = (in-log log i ≡ true) × (in-log log j ≡ true)
-
-  later-in-log : (x s : ℕ) → writer-after log x s j ≡ true → in-log log j ≡ true
-  later-in-log x s h = writes-in-log log j x (writer-after-found log x s j h .writer)
 
   conflict-in-log : conflict log i j ≡ true → Both
   unfolding conflict gives-conflict
@@ -51,7 +62,7 @@ module _ (log : List ℕ) (i j : ℕ) where
   write-order-in-log h =
       let w = of-found log i (λ e. gives-write-order log e j) h in
       let e = w .0 in
-      (in-log-hit log i e (w .1) (w .2), later-in-log (item log e) (transaction log e) (and-right (is-write log e) (writer-after log (item log e) (transaction log e) j) (w .3)))
+      (in-log-hit log i e (w .1) (w .2), later-in-log log (item log e) (transaction log e) j (and-right (is-write log e) (writer-after log (item log e) (transaction log e) j) (w .3)))
 
   read-before-in-log : read-before log i j ≡ true → Both
   unfolding read-before gives-read-before
@@ -60,7 +71,7 @@ module _ (log : List ℕ) (i j : ℕ) where
       (in-log-hit log i (w .0) (w .1) (w .2), go (w .0) (source log (w .0)) (w .3))
     where
       go : (e : ℕ) (o : Option ℕ) → of-source o (λ s. writer-after log (item log e) s j) ≡ true → in-log log j ≡ true
-      go e (some s) q = later-in-log (item log e) s q
+      go e (some s) q = later-in-log log (item log e) s j q
       go e none q = absurd (true≢false (sym q))
 
   some-reason-in-log : (conflict log i j || write-order log i j || read-before log i j) ≡ true → Both
@@ -74,16 +85,6 @@ module _ (log : List ℕ) (i j : ℕ) where
   edge-in-log h = some-reason-in-log (and-right (not (eqb i j)) (conflict log i j || write-order log i j || read-before log i j) h)
 
   -- so the reason needs no look at the log's transactions
-  lowest-none : (a b c : Bool) → (a || b || c) ≡ false → lowest a b c ≡ 0
-  lowest-none true b c h = absurd (true≢false h)
-  lowest-none false true c h = absurd (true≢false h)
-  lowest-none false false true h = absurd (true≢false h)
-  lowest-none false false false h = refl
-
-  nothing : (b : Bool) → _≡_ {A = ℕ} (cond b 0 0) 0
-  nothing true = refl
-  nothing false = refl
-
   pub reason-plain : cond (not (eqb i j)) (lowest (conflict log i j) (write-order log i j) (read-before log i j)) 0 ≡ reason log i j
   unfolding reason
   reason-plain = go (either (conflict log i j || write-order log i j || read-before log i j))
@@ -93,15 +94,9 @@ module _ (log : List ℕ) (i j : ℕ) where
           ≡ cond (in-log log i && in-log log j && not (eqb i j)) (lowest (conflict log i j) (write-order log i j) (read-before log i j)) 0
       go (inl h) = let w = some-reason-in-log h in rw (w .0, w .1) refl
       go (inr h) =
-          rw (lowest-none (conflict log i j) (write-order log i j) (read-before log i j) h, nothing (not (eqb i j)), nothing (in-log log i && in-log log j && not (eqb i j))) refl
+          rw (lowest-zero (conflict log i j) (write-order log i j) (read-before log i j) .1 h, nothing (not (eqb i j)), nothing (in-log log i && in-log log j && not (eqb i j))) refl
 
   -- THEOREM: the reason is 0 exactly where there is no edge
-  lowest-some : (a b c : Bool) → lowest a b c ≡ 0 → (a || b || c) ≡ false
-  lowest-some true b c h = absurd (omega arith)
-  lowest-some false true c h = absurd (omega arith)
-  lowest-some false false true h = absurd (omega arith)
-  lowest-some false false false h = refl
-
   pub no-reason-exactly : (reason log i j ≡ 0) ↔ (edge log i j ≡ false)
   unfolding edge
   no-reason-exactly = (λ h. ahead (eqb i j) (reason-plain ∙ h), λ h. sym reason-plain ∙ back (eqb i j) h)
@@ -109,12 +104,12 @@ module _ (log : List ℕ) (i j : ℕ) where
       ahead : (b : Bool) → cond (not b) (lowest (conflict log i j) (write-order log i j) (read-before log i j)) 0 ≡ 0
           → (not b && (conflict log i j || write-order log i j || read-before log i j)) ≡ false
       ahead true h = refl
-      ahead false h = lowest-some (conflict log i j) (write-order log i j) (read-before log i j) h
+      ahead false h = lowest-zero (conflict log i j) (write-order log i j) (read-before log i j) .0 h
 
       back : (b : Bool) → (not b && (conflict log i j || write-order log i j || read-before log i j)) ≡ false
           → cond (not b) (lowest (conflict log i j) (write-order log i j) (read-before log i j)) 0 ≡ 0
       back true h = refl
-      back false h = lowest-none (conflict log i j) (write-order log i j) (read-before log i j) h
+      back false h = lowest-zero (conflict log i j) (write-order log i j) (read-before log i j) .1 h
 
 -- the tables that the code fills
 module _ (log first second third : List ℕ)

@@ -19,7 +19,7 @@ use Rattle.log.proofs.Passed.{passed-commits, in-log-hit}
 use Rattle.edges.specs.Records.{some-after}
 use Rattle.edges.specs.Order.{writes, is-earlier-commit, commits-earlier, comes-before, writer-after}
 use Rattle.edges.specs.Kept.{LaterItemWriters, LaterRows, LaterCommits, KeptOrder}
-use Rattle.edges.proofs.Orders.{only-one-first, WriterAfter, writer-after-found, writer-after-hit}
+use Rattle.edges.proofs.Orders.{only-one-first, writer-after-found, writer-after-hit}
 use Rattle.edges.proofs.Whole.{rows-whole}
 
 module _ (log : List ℕ) where

@@ -6,12 +6,12 @@ use mathlib.Core.List.{List}
 use mathlib.Core.Bool.{Bool, false, _&&_, _||_}
 use lib.Dec.{eqb}
 use lib.ListN.{replicate}
-use Rattle.sets.specs.Bits.{has, in-row, Holds}
+use Rattle.sets.specs.Bits.{has, in-row}
 use Rattle.sets.proofs.Truth.{and-swap, and-nothing}
 use Rattle.sets.proofs.Tables.{holds-same, holds-none}
 use Rattle.sets.proofs.Passes.{none-said, said-more, nothing-said}
-use Rattle.log.specs.Record.{transactions, records, is-by}
-use Rattle.edges.specs.Kept.{Empty, LaterSets, LaterRows, AddedOwn, AddedToRow}
+use Rattle.log.specs.Record.{transactions, records, is-by, is-write}
+use Rattle.edges.specs.Kept.{Empty, LaterSets, LaterRows, AddedOwn, AddedWriter, AddedToRow}
 
 -- a loop that counts down takes one off first
 pub back-one : (P : ℕ → Type 0) (k : ℕ) → 0 < k → P k → P (k - 1 + 1)
@@ -38,6 +38,16 @@ module _ (log : List ℕ) (k : ℕ) (l : k < records log) where
         said = λ d j.
             v .said d j
             ∙ ap (λ (b : Bool). in-row table d j || b) (and-swap (eqb c d) (is-by log k j) ∙ ap (λ (b : Bool). is-by log k j && b) (sym (e d)));
+      })
+
+  -- a test of writes alone, where only a write adds its transaction
+  pub writers-add : (test : ℕ → ℕ → Bool) (c : ℕ) {wide : ℕ} {table new : List ℕ} → LaterSets log test wide (k + 1) table
+      → ((d : ℕ) → test k d ≡ (is-write log k && eqb c d)) → AddedWriter log k c table new → LaterSets log test wide k new
+  writers-add test c {table = table} w e v =
+      said-more (records log) (λ i d j. is-by log i j && test i d) k l w
+      (record {
+        whole = v .whole ∙ w .whole;
+        said = λ d j. v .said d j ∙ ap (λ (b : Bool). in-row table d j || (is-by log k j && b)) (sym (e d));
       })
 
   pub later-stay : (test : ℕ → ℕ → Bool) {wide : ℕ} {table : List ℕ} → LaterSets log test wide (k + 1) table → ((d : ℕ) → test k d ≡ false)

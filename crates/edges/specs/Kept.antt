@@ -8,7 +8,7 @@ use lib.Dec.{eqb}
 use lib.ListN.{length}
 use Rattle.sets.specs.Search.{some-from}
 use Rattle.sets.specs.Bits.{has, in-row, Holds}
-use Rattle.log.specs.Record.{transactions, items, sites, records, is-by, is-commit, writes-item, writes-copy}
+use Rattle.log.specs.Record.{transactions, items, sites, records, is-by, is-write, is-commit, writes-item, writes-copy}
 use Rattle.edges.specs.Order.{writes, commits-earlier}
 use Rattle.edges.specs.Reasons.{uses-copy}
 
@@ -36,6 +36,10 @@ LaterRows log says k = Holds transactions (λ i j. some-from k (records log) (λ
 -- a table to whose set at c the transaction of record k was added
 abbrev pub AddedOwn : List ℕ → (k c : ℕ) → List ℕ → List ℕ → Type 0
 AddedOwn log k c old = Holds (length old) (λ d j. in-row old d j || (eqb c d && is-by log k j))
+
+-- a table to whose set at c it was added where record k is a write
+abbrev pub AddedWriter : List ℕ → (k c : ℕ) → List ℕ → List ℕ → Type 0
+AddedWriter log k c old = Holds (length old) (λ d j. in-row old d j || (is-by log k j && (is-write log k && eqb c d)))
 
 -- a table to whose row of record k's transaction a set was added
 abbrev pub AddedToRow : List ℕ → (k to : ℕ) → List ℕ → List ℕ → Type 0

@@ -55,7 +55,7 @@ read-before log i j = some-of log i (λ e. gives-read-before log e j)
 unfoldable pub edge : List ℕ → ℕ → ℕ → Bool
 edge log i j = not (eqb i j) && (conflict log i j || write-order log i j || read-before log i j)
 
--- "the lowest number that applies": which of the three do, and 0 where none does
+-- "the lowest number that applies" of 1, 2 and 3, by which of them do; 0 where none does
 abbrev pub lowest : Bool → Bool → Bool → ℕ
 lowest first second third = cond first 1 (cond second 2 (cond third 3 0))
 
@@ -69,7 +69,7 @@ unfoldable pub edge-answer : List ℕ → ℕ → ℕ → Answer ℕ
 edge-answer log i j = check-answer log then row 10 (leb transactions i || leb transactions j) 0 then gives (reason log i j)
 
 -- the graph of a log that passes: the set of the transactions in the log, and a table in which bit j of number i is the edge from
--- i to j
+-- i to j (the form in which document 02 lends it)
 unfoldable pub members : List ℕ → ℕ
 members log = set-of transactions (in-log log)
 

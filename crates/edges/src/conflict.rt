@@ -9,6 +9,7 @@ ghost use Rattle.edges.specs.Reasons.{gives-conflict, conflict};
 ghost use Rattle.edges.specs.Kept.{Empty, LaterUsers, LaterWriters};
 use crate::table::add_own;
 use crate::table::add_to_row;
+use crate::table::add_writer;
 use log::record::Copy;
 use log::record::READ;
 use log::record::TRANSACTIONS;
@@ -55,18 +56,8 @@ fn keep_user(log: &[u8], k: usize, users: &mut [u64; Copy::COPIES])
     add_own(log, k, copy_at(log, k), users);
 }
 
-// Keeps a write: its transaction is a writer of its copy.
-fn keep_writer(log: &[u8], k: usize, writers: &mut [u64; Copy::COPIES])
-    requires { ⌜ Within (now log) k ⌝ }
-    requires { ⌜ LaterWriters (now log) (k + 1) (now writers) ⌝ }
-    ensures { λ r. ⌜ LaterWriters (now (log .entry)) k (now (writers .exit)) ⌝ }
-{
-    if kind_at(log, k) == WRITE {
-        add_own(log, k, copy_at(log, k), writers);
-    }
-}
-
-// Fills an empty table with the conflicts of a log that passes, in one pass from its end.
+// Fills an empty table with the conflicts of a log that passes, in one pass from its end, a fixed number of steps for each record.
+// Before it 16 KiB are cleared.
 pub(crate) fn conflicts(log: &[u8], table: &mut [u64; TRANSACTIONS])
     requires { ⌜ check-answer (now log) ≡ passed ⌝ }
     requires { ⌜ Empty transactions (now table) ⌝ }
@@ -80,6 +71,6 @@ pub(crate) fn conflicts(log: &[u8], table: &mut [u64; TRANSACTIONS])
         let later = conflicting_later(log, k, &users, &writers);
         add_to_row(log, k, later, table);
         keep_user(log, k, &mut users);
-        keep_writer(log, k, &mut writers);
+        add_writer(log, k, copy_at(log, k), &mut writers);
     }
 }

@@ -1,4 +1,4 @@
-// The graph of a log: every edge with its lowest reason, and the question "edge from i to j".
+// The graph of a log as a table of its edges, and the question "edge from i to j".
 ghost use mathlib.Core.Path.{_≡_};
 ghost use Prim.Native.Nat.{_<_};
 ghost use Rattle.sets.specs.Bits.{Holds};
@@ -31,7 +31,7 @@ pub enum Edge {
 }
 
 // The edges of a log that passes, in three tables, each with those of one reason, whatever they held before. The result is the set of
-// its transactions. Two passes and the walks back to sources; some 17 KiB are cleared.
+// its transactions. Three passes and the walks back to sources; some 18 KiB are cleared.
 pub fn edges_by_reason(
     log: &[u8],
     by_conflict: &mut [u64; TRANSACTIONS],
@@ -55,7 +55,7 @@ pub fn edges_by_reason(
     set
 }
 
-// The table of every edge of a log that passes, and the set of its transactions.
+// The table of every edge of a log that passes; the result is the set of its transactions.
 fn edges_of_log(log: &[u8], table: &mut [u64; TRANSACTIONS]) -> u64
     requires { ⌜ check-answer (now log) ≡ passed ⌝ }
     ensures { λ r. ⌜ r ≡ members (now (log .entry)) ⌝ }
@@ -80,7 +80,7 @@ pub fn graph_of_log(log: &[u8], table: &mut [u64; TRANSACTIONS]) -> Graph
     }
 }
 
-// The lowest reason of an edge from i to j in a log that passes.
+// The lowest reason of an edge from i to j in a log that passes. All edges are looked for, so it costs as much as the graph.
 fn reason_between(log: &[u8], i: usize, j: usize) -> u8
     requires { ⌜ check-answer (now log) ≡ passed ⌝ }
     requires { ⌜ (i < transactions) × (j < transactions) ⌝ }

@@ -7,29 +7,17 @@ ghost use Rattle.log.specs.Record.{Within, transactions, items, item, in-log};
 ghost use Rattle.log.specs.Refusal.{check-answer};
 ghost use Rattle.edges.specs.Order.{writer-after, is-earlier-commit};
 ghost use Rattle.edges.specs.Kept.{Empty, LaterItemWriters, LaterRows, LaterCommits, KeptOrder};
-use crate::table::add_own;
 use crate::table::add_to_row;
+use crate::table::add_writer;
 use log::record::COMMIT;
 use log::record::Copy;
 use log::record::TRANSACTIONS;
-use log::record::WRITE;
 use log::record::item_at;
 use log::record::kind_at;
 use log::record::record_count;
 use log::record::transaction_at;
 
-// Keeps a write: its transaction is a writer of its item.
-fn keep_writer(log: &[u8], k: usize, writers: &mut [u64; Copy::ITEMS])
-    requires { ⌜ Within (now log) k ⌝ }
-    requires { ⌜ LaterItemWriters (now log) (k + 1) (now writers) ⌝ }
-    ensures { λ r. ⌜ LaterItemWriters (now (log .entry)) k (now (writers .exit)) ⌝ }
-{
-    if kind_at(log, k) == WRITE {
-        add_own(log, k, item_at(log, k), writers);
-    }
-}
-
-// Keeps a commit: all that commit later come after its transaction, which then is one of them.
+// Keeps a commit: all that commit later come after its transaction. For the records before it, its transaction commits later too.
 fn keep_commit(log: &[u8], k: usize, later: u64, after: &mut [u64; TRANSACTIONS]) -> u64
     requires { ⌜ Within (now log) k ⌝ }
     requires { ⌜ LaterCommits (now log) (k + 1) later ⌝ }
@@ -60,7 +48,7 @@ pub(crate) fn keep_order(
     let mut k = record_count(log);
     while 0 < k {
         k -= 1;
-        keep_writer(log, k, writers);
+        add_writer(log, k, item_at(log, k), writers);
         committed = keep_commit(log, k, committed, after);
     }
     committed

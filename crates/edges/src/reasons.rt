@@ -58,8 +58,8 @@ fn after_by_read(
     }
 }
 
-// Fills two empty tables with the edges of reasons 2 and 3 of a log that passes, in one pass with a walk back to the source of each
-// read.
+// Fills two empty tables with the edges of reasons 2 and 3 of a log that passes, in one pass from its end. Each read costs a walk back
+// to its source, which may be as long as the log.
 pub(crate) fn order_edges(
     log: &[u8],
     writers: &[u64; Copy::ITEMS],

@@ -6,8 +6,10 @@ ghost use lib.ListN.{length};
 ghost use Rattle.sets.specs.Bits.{Holds};
 ghost use Rattle.log.specs.Record.{Within, transactions};
 ghost use Rattle.edges.specs.Table.{any-reason, lowest-in};
-ghost use Rattle.edges.specs.Kept.{AddedOwn, AddedToRow};
+ghost use Rattle.edges.specs.Kept.{AddedOwn, AddedWriter, AddedToRow};
 use log::record::TRANSACTIONS;
+use log::record::WRITE;
+use log::record::kind_at;
 use log::record::transaction_at;
 
 // The transaction of record k joins the set at c.
@@ -18,6 +20,17 @@ pub(crate) fn add_own(log: &[u8], k: usize, c: usize, table: &mut [u64])
 {
     let t = transaction_at(log, k);
     table[c] = sets::with_member(table[c], t);
+}
+
+// The transaction of a write joins the set at c.
+pub(crate) fn add_writer(log: &[u8], k: usize, c: usize, table: &mut [u64])
+    requires { ⌜ Within (now log) k ⌝ }
+    requires { ⌜ c < length (now table) ⌝ }
+    ensures { λ r. ⌜ AddedWriter (now (log .entry)) k c (now (table .entry)) (now (table .exit)) ⌝ }
+{
+    if kind_at(log, k) == WRITE {
+        add_own(log, k, c, table);
+    }
 }
 
 // The set joins the row of record k's transaction.

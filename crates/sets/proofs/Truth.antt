@@ -1,4 +1,4 @@
--- Laws of tests: what a conjunction, a disjunction and an equality of numbers say when they hold and when they fail.
+-- Laws of tests: what a conjunction and a disjunction say when they hold and when they fail.
 -- Assumes nothing.
 use mathlib.Core.Path.{_≡_, refl, sym, _∙_}
 use mathlib.Core.Bool.{Bool, true, false, _&&_, _||_, true≢false}

@@ -20,12 +20,13 @@ set-of (suc n) p = cond (p n) (2 ^ n) 0 + set-of n p
 abbrev pub in-row : List ℕ → ℕ → ℕ → Bool
 in-row table i j = has (getD table i 0) j
 
--- the table of the first n sets
+-- the table of n sets, of which number i is `row i`
 unfoldable pub table-of : ℕ → (ℕ → ℕ) → List ℕ
 table-of zero row = []
 table-of (suc n) row = table-of n row ++ (row n ∷ [])
 
--- a table of the width given that holds a relation: bit j of number i is 1 exactly where the relation holds from i to j
+-- a table that holds a relation: bit j of number i is 1 exactly where the relation holds from i to j. It is said of every i and j, so
+-- the relation holds from nothing past the table's end.
 pub record Holds (wide : ℕ) (relation : ℕ → ℕ → Bool) (table : List ℕ) : Type 0 where
   pub whole : length table ≡ wide
   pub said : (i j : ℕ) → in-row table i j ≡ relation i j

@@ -21,7 +21,7 @@ pub fn with_member(set: u64, i: usize) -> u64
     set | (1 << i)
 }
 
-// The set without i.
+// The set without i: put in first, so that turning its bit over takes it out.
 pub fn without_member(set: u64, i: usize) -> u64
     requires { ⌜ i < 64 ⌝ }
     ensures { λ r. ⌜ ((j : ℕ) → has r j ≡ (has set j && not (eqb i j))) ⌝ }

@@ -1,7 +1,6 @@
 -- `edges::conflict::conflicting_later` meets its contract, by what is kept of the records after k. Assumes nothing.
 use borrow.Author.Needs.{needs}
-use native.Mathlib.Omega.{arith}
-use mathlib.Core.Path.{_≡_, _∙_, sym, ap}
+use mathlib.Core.Path.{_∙_, sym, ap}
 use mathlib.Core.Bool.{_&&_}
 use Prim.Native.Nat.{ℕ, _+_}
 use denote.Ref.{now}
@@ -13,10 +12,6 @@ use Rattle.edges.specs.Reasons.{uses-copy}
 use Rattle.edges.proofs.Conflicts.{read-conflicts, write-conflicts, none-conflicts}
 use Rattle.edges.proofs.conflict.conflicting_later.Statement.{statement}
 use Rattle.edges.proofs.conflict.conflicting_later.Tie as tie
-
--- a read's byte is not a write's
-one-byte : _≡_ {A = ℕ} 1 2 → ⊥
-one-byte e = absurd (omega arith)
 
 kind-at-requires : tie.Need-kind-at-requires
 kind-at-requires c κs = search needs
@@ -38,10 +33,9 @@ returns c j =
     let log = now (s .args .log) in
     let k = s .args .k in
     let at-kind = at-test .before .kind-at in
-    let no-write = byte-is-not (write-byte log k) (at-kind .ensures) (λ q. one-byte (sym (at-test .if1 .taken) ∙ q)) in
     s .pre .1 .1 .said (at-copy .copy-at .result) j
     ∙ ap (λ (x : ℕ). some-from (k + 1) (records log) (λ f. is-by log f j && writes-copy log f x)) (at-copy .copy-at .ensures .0)
-    ∙ sym (read-conflicts log k (byte-is (read-byte log k) (at-kind .ensures) (at-test .if1 .taken)) no-write j)
+    ∙ sym (read-conflicts log k (byte-is (read-byte log k) (at-kind .ensures) (at-test .if1 .taken)) j)
 
 copy-at-requires-2 : tie.Need-copy-at-requires-2
 copy-at-requires-2 c κs = search needs

@@ -9,9 +9,10 @@ use lib.ListN.{replicate}
 use denote.Ref.{now}
 use Rattle.log.specs.Record.{Within, items, sites, records, writes-copy}
 use Rattle.log.proofs.Passed.{passed-within}
+use Rattle.log.proofs.KindBytes.{writes-copy-of}
 use Rattle.edges.specs.Reasons.{uses-copy, gives-conflict}
 use Rattle.edges.specs.Kept.{LaterRows, LaterUsers, LaterWriters}
-use Rattle.edges.proofs.Steps.{empty-table, back-one, rows-start, rows-add, later-start}
+use Rattle.edges.proofs.Steps.{empty-table, back-one, rows-start, rows-add, later-start, writers-add}
 use Rattle.edges.proofs.Whole.{conflict-whole}
 use Rattle.edges.proofs.conflict.conflicts.Statement.{statement}
 use Rattle.edges.proofs.conflict.conflicts.Tie as tie
@@ -74,15 +75,26 @@ keep-user-requires c κs =
     let t = c .before .before .before .before .before .before in
     (right t, next-users t)
 
-keep-writer-requires : tie.Need-keep-writer-requires Inv-loop μ-loop
-keep-writer-requires c κs = let t = c .before .before .before .before .before .before .before .before in (right t, next-writers t)
+copy-at-requires : tie.Need-copy-at-requires Inv-loop μ-loop
+copy-at-requires c κs = right (c .before .before .before .before .before .before .before)
+
+slice-aggregate-add-writer : tie.Need-slice-aggregate-add-writer Inv-loop μ-loop
+slice-aggregate-add-writer c = sym (c .before .before .before .before .before .before .before .before .before .before .loop .inv .3 .whole)
+
+add-writer-requires : tie.Need-add-writer-requires Inv-loop μ-loop
+add-writer-requires c κs =
+    let at-copy = c .before in
+    let t = at-copy .before .before .before .before .before .before .before .before in
+    (right t, rw (t .before .loop .inv .3 .whole) (at-copy .copy-at .ensures .1))
 
 loop-less : tie.Need-loop-less Inv-loop μ-loop
 loop-less c = omega arith
 
 loop-again : tie.Need-loop-again Inv-loop μ-loop
 loop-again c =
-    let at-user = c .before .before in
+    let at-writer = c .before in
+    let at-copy = at-writer .before .before in
+    let at-user = at-copy .before in
     let at-edges = at-user .before .before in
     let at-later = at-edges .before .before in
     let t = at-later .before .before .before in
@@ -91,7 +103,8 @@ loop-again c =
       rows-add (log t) (k t - 1) (right t .there) (gives-conflict (log t)) (at-later .conflicting-later .result)
           (next t (λ x. LaterRows (log t) (gives-conflict (log t)) x (l .table)) (l .inv .1)) (at-later .conflicting-later .ensures) (at-edges .add-to-row .ensures),
       at-user .keep-user .ensures,
-      c .keep-writer .ensures,
+      writers-add (log t) (k t - 1) (right t .there) (writes-copy (log t)) (at-copy .copy-at .result) (next-writers t)
+          (λ d. writes-copy-of (log t) (k t - 1) d (at-copy .copy-at .ensures .0)) (at-writer .add-writer .ensures),
     )
 
 returns : tie.Need-returns Inv-loop μ-loop
@@ -113,7 +126,9 @@ conflicts-spec =
     conflicting-later-requires
     add-to-row-requires
     keep-user-requires
-    keep-writer-requires
+    copy-at-requires
+    slice-aggregate-add-writer
+    add-writer-requires
     loop-less
     loop-again
     returns)

@@ -39,8 +39,8 @@ returns-2 c = let at-place = c .before .before in
     let k = s .args .k in
     let kind = at-kind .kind-at .ensures in
     let uses : ((d : ℕ) → uses-copy log k d ≡ eqb (copy-of log k) d) =
-        ⊎-elim (λ w. use-of-write log k (byte-is (write-byte log k) kind (w .1 .left))) (λ r. use-of-read log k (byte-is (read-byte log k) kind (r .left)))
-        (at-place .before .if1 .came) in
+    ⊎-elim (λ w. use-of-write log k (byte-is (write-byte log k) kind (w .1 .left))) (λ r. use-of-read log k (byte-is (read-byte log k) kind (r .left)))
+    (at-place .before .if1 .came) in
     later-add log k (s .pre .0 .there) (uses-copy log) (at-place .copy-at .result) (s .pre .1)
     (λ d. uses d ∙ ap (λ (y : ℕ). eqb y d) (sym (at-place .copy-at .ensures .0))) (c .add-own .ensures)
 

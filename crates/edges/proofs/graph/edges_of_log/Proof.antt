@@ -2,8 +2,6 @@
 -- only one. Assumes nothing.
 use borrow.Author.Needs.{needs}
 use denote.Ref.{now}
-use Rattle.log.specs.Record.{transactions}
-use Rattle.edges.proofs.Steps.{empty-table}
 use Rattle.edges.proofs.Graphs.{joined-whole, only-edges}
 use Rattle.edges.proofs.graph.edges_of_log.Statement.{statement}
 use Rattle.edges.proofs.graph.edges_of_log.Tie as tie

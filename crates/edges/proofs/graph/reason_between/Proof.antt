@@ -2,8 +2,6 @@
 use borrow.Author.Needs.{needs}
 use mathlib.Core.Path.{_∙_}
 use denote.Ref.{now}
-use Rattle.log.specs.Record.{transactions}
-use Rattle.edges.proofs.Steps.{empty-table}
 use Rattle.edges.proofs.Graphs.{lowest-whole}
 use Rattle.edges.proofs.graph.reason_between.Statement.{statement}
 use Rattle.edges.proofs.graph.reason_between.Tie as tie

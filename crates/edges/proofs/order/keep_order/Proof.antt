@@ -7,9 +7,10 @@ use Prim.Native.Nat.{ℕ, _-_, _≤_}
 use denote.Ref.{now}
 use Rattle.log.specs.Record.{Within, items, records, writes-item}
 use Rattle.log.proofs.Passed.{passed-within}
+use Rattle.log.proofs.KindBytes.{writes-item-of}
 use Rattle.edges.specs.Order.{is-earlier-commit}
 use Rattle.edges.specs.Kept.{LaterItemWriters, LaterRows, LaterCommits}
-use Rattle.edges.proofs.Steps.{back-one, later-start, rows-start}
+use Rattle.edges.proofs.Steps.{back-one, writers-add, later-start, rows-start}
 use Rattle.edges.proofs.KeptOrders.{commits-start, order-whole, members-whole}
 use Rattle.edges.proofs.order.keep_order.Statement.{statement}
 use Rattle.edges.proofs.order.keep_order.Tie as tie
@@ -52,14 +53,17 @@ module _ (c : tie.In-loop Inv-loop μ-loop) where
 sub-k : tie.Need-sub-k Inv-loop μ-loop
 sub-k c = omega arith
 
-keep-writer-requires : tie.Need-keep-writer-requires Inv-loop μ-loop
-keep-writer-requires c κs =
-    let t = c .before in
-    (right t, back-one (λ x. LaterItemWriters (log t) x (t .before .loop .writers)) (k t) (t .loop-test .taken) (t .before .loop .inv .1))
+item-at-requires : tie.Need-item-at-requires Inv-loop μ-loop
+item-at-requires c κs = right c
+
+add-writer-requires : tie.Need-add-writer-requires Inv-loop μ-loop
+add-writer-requires c κs =
+    let t = c .before .before in
+    (right t, rw (t .before .loop .inv .1 .whole) (c .before .item-at .ensures .1))
 
 keep-commit-requires : tie.Need-keep-commit-requires Inv-loop μ-loop
 keep-commit-requires c κs =
-    let t = c .before .before .before in
+    let t = c .before .before .before .before in
     let l = t .before .loop in (
       right t,
       (
@@ -74,8 +78,16 @@ loop-less c = omega arith
 loop-again : tie.Need-loop-again Inv-loop μ-loop
 loop-again c =
     let at-writer = c .before .before in
-    let t = at-writer .before .before in
-    (omega (arith, t .before .loop .inv .0), at-writer .keep-writer .ensures, c .keep-commit .ensures .0, c .keep-commit .ensures .1)
+    let at-item = at-writer .before .before in
+    let t = at-item .before in
+    let l = t .before .loop in (
+      omega (arith, l .inv .0),
+      writers-add (log t) (k t - 1) (right t .there) (writes-item (log t)) (at-item .item-at .result)
+          (back-one (λ x. LaterItemWriters (log t) x (l .writers)) (k t) (t .loop-test .taken) (l .inv .1))
+          (λ d. writes-item-of (log t) (k t - 1) d (at-item .item-at .ensures .0)) (at-writer .add-writer .ensures),
+      c .keep-commit .ensures .0,
+      c .keep-commit .ensures .1,
+    )
 
 -- after the last turn k is 0
 at-zero : (c : tie.After-loop Inv-loop μ-loop) → c .before .loop .k ≡ 0
@@ -98,7 +110,8 @@ keep-order-spec =
     record-count-requires
     loop-holds
     sub-k
-    keep-writer-requires
+    item-at-requires
+    add-writer-requires
     keep-commit-requires
     loop-less
     loop-again

@@ -1,6 +1,6 @@
 -- `edges::order::writers_after` meets its contract: the writers of the item among those that commit after s. Assumes nothing.
 use borrow.Author.Needs.{needs}
-use mathlib.Core.Path.{_∙_, sym, ap, ap₂}
+use mathlib.Core.Path.{_∙_, ap, ap₂}
 use mathlib.Core.Bool.{_&&_}
 use denote.Ref.{now}
 use Rattle.log.specs.Record.{item}
