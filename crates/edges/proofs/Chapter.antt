@@ -11,7 +11,7 @@ use mathlib.Core.Logic.{_⊎_, inl, inr, ⊎-elim}
 use lib.Dec.{eqb}
 use borrow.Author.Tests.{eq-eqb, eqb-false, ne-eqb, not-true}
 use Rattle.sets.specs.Paths.{by-edge, edge-then, Acyclic}
-use Rattle.sets.proofs.Truth.{clash, and-true, and-left, and-right, or-hit-left, or-hit-right}
+use Rattle.sets.proofs.Truth.{clash, and-left, and-right, or-hit-left, or-hit-right}
 use Rattle.log.specs.Answer.{passed}
 use Rattle.log.specs.Record.{records, transaction, item, copy-of, is-by, is-read, is-write, writes-copy, wrote-item}
 use Rattle.log.specs.Refusal.{check-answer}
@@ -19,11 +19,12 @@ use Rattle.log.specs.Source.{source-record, its-transaction, source}
 use Rattle.log.proofs.Sources.{Sourced, sourced, source-of}
 use Rattle.log.proofs.Passed.{by-own, by-same, same-copy, writes-copy-found, wrote-copy-found, passed-within, passed-source, passed-own}
 use Rattle.edges.specs.Order.{writes, comes-before, writer-after}
-use Rattle.edges.specs.Reasons.{of-source, uses-copy, conflicting, gives-conflict, gives-write-order, gives-read-before, conflict}
+use Rattle.edges.specs.Reasons.{uses-copy, conflicting, gives-conflict, gives-write-order, gives-read-before, conflict}
 use Rattle.edges.specs.Reasons.{write-order, read-before, edge}
 use Rattle.edges.specs.Chapter.{serialization-edge, ReadsFrom, InducesWriteOrder, InducesReadOrder, RDSG}
 use Rattle.edges.proofs.Records.{of-hit, after-hit}
 use Rattle.edges.proofs.Orders.{writes-found, writes-hit, writer-after-hit, one-comes-first}
+use Rattle.edges.proofs.Given.{write-gives, sourced-gives}
 use Rattle.edges.proofs.Graphs.{edge-in-log}
 use Rattle.edges.proofs.Conflicts.{use-of-read, use-of-write, conflicts-with-write}
 
@@ -47,22 +48,21 @@ module _ (log : List ℕ) where
 
   -- two writers in their order, and a reader of the first, are edges
   pub ordered-edge : (x i j : ℕ) → writes log i x ≡ true → writes log j x ≡ true → (i ≡ j → ⊥) → comes-before log x i j ≡ true → edge log i j ≡ true
-  unfolding write-order gives-write-order
+  unfolding write-order
   ordered-edge x i j v w d h =
       let e = writes-found log i x v in
       let k = e .0 in
-      let later = writer-after-hit log x i j (record { writer = w; other = λ q. d (sym q); comes-after = h }) in
-      let at-record : writer-after log (item log k) (transaction log k) j ≡ true = rw (e .4, by-same log k i (e .2)) later in
-      write-order-edge i j d
-      (of-hit log i (λ f. gives-write-order log f j) k (e .1) (e .2) (and-true (is-write log k) (writer-after log (item log k) (transaction log k) j) (e .3) at-record))
+      let after = writer-after-hit log x i j (record { writer = w; other = λ q. d (sym q); comes-after = h }) in
+      let at-record : writer-after log (item log k) (transaction log k) j ≡ true = rw (e .4, by-same log k i (e .2)) after in
+      write-order-edge i j d (of-hit log i (λ f. gives-write-order log f j) k (e .1) (e .2) (write-gives log k j (e .3) ∙ at-record))
 
   pub reader-edge : (x i j k e : ℕ) → ReadsFrom log x j i e → writes log k x ≡ true → (k ≡ i → ⊥) → (k ≡ j → ⊥) → comes-before log x i k ≡ true
       → edge log j k ≡ true
-  unfolding read-before gives-read-before
+  unfolding read-before
   reader-edge x i j k e r w d f h =
-      let later = writer-after-hit log x i k (record { writer = w; other = d; comes-after = h }) in
-      let at-record : of-source (source log e) (λ s. writer-after log (item log e) s k) ≡ true = rw (r .from, r .of-item) later in
-      read-before-edge j k (λ q. f (sym q)) (of-hit log j (λ g. gives-read-before log g k) e (r .there) (r .its-own) at-record)
+      let after = writer-after-hit log x i k (record { writer = w; other = d; comes-after = h }) in
+      let at-record : writer-after log (item log e) i k ≡ true = rw (r .of-item) after in
+      read-before-edge j k (λ q. f (sym q)) (of-hit log j (λ g. gives-read-before log g k) e (r .there) (r .its-own) (sourced-gives log e k i (r .from) ∙ at-record))
 
   -- so it has every edge of SG
   extends-SG : (i j : ℕ) → serialization-edge log i j ≡ true → edge log i j ≡ true

@@ -1,9 +1,12 @@
--- Which edges a record gives by the write order: a write by reason 2, a record with a source by reason 3. Assumes nothing.
+-- Which edges a record gives by the write order: a write by reason 2, a record with a source by reason 3. No other file opens what a
+-- record gives. Assumes nothing.
 use Prim.Native.Nat.{ℕ}
-use mathlib.Core.Path.{_≡_, refl, ap}
+use mathlib.Core.Path.{_≡_, refl, sym, _∙_, ap}
 use mathlib.Core.List.{List}
 use mathlib.Core.Bool.{true, false}
 use mathlib.Core.Option.{Option, none, some}
+use mathlib.Core.Logic.{_⊎_, ⊎-elim}
+use Rattle.sets.proofs.Truth.{either, clash}
 use Rattle.log.specs.Record.{transaction, item, is-write}
 use Rattle.log.specs.Source.{source-record, its-transaction, source}
 use Rattle.log.proofs.Sources.{source-of}
@@ -11,6 +14,7 @@ use Rattle.edges.specs.Order.{writer-after}
 use Rattle.edges.specs.Reasons.{of-source, gives-write-order, gives-read-before}
 
 module _ (log : List ℕ) (e j : ℕ) where
+  -- reason 2
   pub write-gives : is-write log e ≡ true → gives-write-order log e j ≡ writer-after log (item log e) (transaction log e) j
   unfolding gives-write-order
   write-gives w = rw w refl
@@ -19,10 +23,31 @@ module _ (log : List ℕ) (e j : ℕ) where
   unfolding gives-write-order
   other-gives w = rw w refl
 
-  pub read-gives : (f : ℕ) → source-record log e ≡ some f → gives-read-before log e j ≡ writer-after log (item log e) (transaction log f) j
+  pub gives-order-found : gives-write-order log e j ≡ true → (is-write log e ≡ true) × (writer-after log (item log e) (transaction log e) j ≡ true)
+  gives-order-found h =
+      ⊎-elim (λ (w : is-write log e ≡ true). (w, sym (write-gives w) ∙ h)) (λ (w : is-write log e ≡ false). absurd (clash (gives-write-order log e j) h (other-gives w)))
+      (either (is-write log e))
+
+  -- reason 3
+  pub sourced-gives : (s : ℕ) → source log e ≡ some s → gives-read-before log e j ≡ writer-after log (item log e) s j
   unfolding gives-read-before
-  read-gives f h = ap (λ (o : Option ℕ). of-source o (λ s. writer-after log (item log e) s j)) (source-of log e f h)
+  sourced-gives s h = ap (λ (o : Option ℕ). of-source o (λ t. writer-after log (item log e) t j)) h
+
+  no-source-gives : source log e ≡ none → gives-read-before log e j ≡ false
+  unfolding gives-read-before
+  no-source-gives h = ap (λ (o : Option ℕ). of-source o (λ t. writer-after log (item log e) t j)) h
+
+  pub gives-read-found : gives-read-before log e j ≡ true → (s : ℕ) × (source log e ≡ some s) × (writer-after log (item log e) s j ≡ true)
+  gives-read-found h = go (source log e) refl
+    where
+      go : (o : Option ℕ) → source log e ≡ o → (s : ℕ) × (source log e ≡ some s) × (writer-after log (item log e) s j ≡ true)
+      go (some s) q = (s, q, sym (sourced-gives s q) ∙ h)
+      go none q = absurd (clash (gives-read-before log e j) h (no-source-gives q))
+
+  -- by the record of the source, as the walk back finds it
+  pub read-gives : (f : ℕ) → source-record log e ≡ some f → gives-read-before log e j ≡ writer-after log (item log e) (transaction log f) j
+  read-gives f h = sourced-gives (transaction log f) (source-of log e f h)
 
   pub sourceless-gives : source-record log e ≡ none → gives-read-before log e j ≡ false
-  unfolding gives-read-before source
-  sourceless-gives h = ap (λ (o : Option ℕ). of-source (its-transaction log o) (λ s. writer-after log (item log e) s j)) h
+  unfolding source
+  sourceless-gives h = no-source-gives (ap (its-transaction log) h)

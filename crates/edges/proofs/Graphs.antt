@@ -5,7 +5,7 @@ use native.Mathlib.Omega.{arith}
 use mathlib.Core.Path.{_≡_, refl, sym, _∙_}
 use mathlib.Core.List.{List}
 use mathlib.Core.Bool.{Bool, true, false, not, _&&_, _||_, cond, true≢false}
-use mathlib.Core.Option.{Option, none, some}
+use mathlib.Core.Option.{none}
 use mathlib.Core.Logic.{_⊎_, inl, inr, ⊎-elim, _↔_}
 use lib.Dec.{eqb}
 use lib.ListN.{length}
@@ -13,17 +13,17 @@ use Rattle.sets.specs.Bits.{has, Holds}
 use Rattle.sets.proofs.Truth.{either, and-right, and-nothing, or-cases}
 use Rattle.sets.proofs.Tables.{holds-same, row-past, has-all, only-set, holds-table, holds-once}
 use Rattle.log.specs.Answer.{passed}
-use Rattle.log.specs.Record.{transactions, transaction, item, is-write, in-log}
+use Rattle.log.specs.Record.{transactions, transaction, item, in-log}
 use Rattle.log.specs.Refusal.{check-answer}
-use Rattle.log.specs.Source.{source}
 use Rattle.log.proofs.Passed.{in-log-hit, passed-low}
 use Rattle.edges.specs.Order.{writer-after}
-use Rattle.edges.specs.Reasons.{of-source, conflicting, gives-conflict, gives-write-order, gives-read-before, conflict, write-order}
+use Rattle.edges.specs.Reasons.{conflicting, gives-conflict, gives-write-order, gives-read-before, conflict, write-order}
 use Rattle.edges.specs.Reasons.{read-before}
 use Rattle.edges.specs.Reasons.{edge, lowest, reason, members, edge-table}
 use Rattle.edges.specs.Table.{any-reason, lowest-in}
 use Rattle.edges.proofs.Records.{of-found, after-found}
 use Rattle.edges.proofs.Orders.{writer-after-found, writes-in-log}
+use Rattle.edges.proofs.Given.{gives-order-found, gives-read-found}
 
 -- past the end of three tables there are no edges
 pub past-all : (first second third : List ℕ) → length first ≡ transactions → length second ≡ transactions → length third ≡ transactions
@@ -33,8 +33,12 @@ past-all first second third a b c i j l =
 
 -- the lowest of three reasons is 0 exactly where none applies
 lowest-zero : (a b c : Bool) → (lowest a b c ≡ 0) ↔ ((a || b || c) ≡ false)
-lowest-zero true b c = (λ h. absurd (omega arith), λ h. absurd (true≢false h))
-lowest-zero false true c = (λ h. absurd (omega arith), λ h. absurd (true≢false h))
+lowest-zero true true true = (λ h. absurd (omega arith), λ h. absurd (true≢false h))
+lowest-zero true true false = (λ h. absurd (omega arith), λ h. absurd (true≢false h))
+lowest-zero true false true = (λ h. absurd (omega arith), λ h. absurd (true≢false h))
+lowest-zero true false false = (λ h. absurd (omega arith), λ h. absurd (true≢false h))
+lowest-zero false true true = (λ h. absurd (omega arith), λ h. absurd (true≢false h))
+lowest-zero false true false = (λ h. absurd (omega arith), λ h. absurd (true≢false h))
 lowest-zero false false true = (λ h. absurd (omega arith), λ h. absurd (true≢false h))
 lowest-zero false false false = (λ h. refl, λ h. refl)
 
@@ -42,8 +46,8 @@ nothing : (b : Bool) → _≡_ {A = ℕ} (cond b 0 0) 0
 nothing true = refl
 nothing false = refl
 
-later-in-log : (log : List ℕ) (x s j : ℕ) → writer-after log x s j ≡ true → in-log log j ≡ true
-later-in-log log x s j h = writes-in-log log j x (writer-after-found log x s j h .writer)
+after-in-log : (log : List ℕ) (x s j : ℕ) → writer-after log x s j ≡ true → in-log log j ≡ true
+after-in-log log x s j h = writes-in-log log j x (writer-after-found log x s j h .writer)
 
 module _ (log : List ℕ) (i j : ℕ) where
   -- each reason is one for two transactions in the log
@@ -58,21 +62,19 @@ module _ (log : List ℕ) (i j : ℕ) where
       (in-log-hit log i (w .0) (w .1) (w .2), in-log-hit log j (v .0) (v .2) (v .3))
 
   write-order-in-log : write-order log i j ≡ true → Both
-  unfolding write-order gives-write-order
+  unfolding write-order
   write-order-in-log h =
       let w = of-found log i (λ e. gives-write-order log e j) h in
       let e = w .0 in
-      (in-log-hit log i e (w .1) (w .2), later-in-log log (item log e) (transaction log e) j (and-right (is-write log e) (writer-after log (item log e) (transaction log e) j) (w .3)))
+      (in-log-hit log i e (w .1) (w .2), after-in-log log (item log e) (transaction log e) j (gives-order-found log e j (w .3) .1))
 
   read-before-in-log : read-before log i j ≡ true → Both
-  unfolding read-before gives-read-before
+  unfolding read-before
   read-before-in-log h =
       let w = of-found log i (λ e. gives-read-before log e j) h in
-      (in-log-hit log i (w .0) (w .1) (w .2), go (w .0) (source log (w .0)) (w .3))
-    where
-      go : (e : ℕ) (o : Option ℕ) → of-source o (λ s. writer-after log (item log e) s j) ≡ true → in-log log j ≡ true
-      go e (some s) q = later-in-log log (item log e) s j q
-      go e none q = absurd (true≢false (sym q))
+      let e = w .0 in
+      let r = gives-read-found log e j (w .3) in
+      (in-log-hit log i e (w .1) (w .2), after-in-log log (item log e) (r .0) j (r .2))
 
   some-reason-in-log : (conflict log i j || write-order log i j || read-before log i j) ≡ true → Both
   some-reason-in-log h =

@@ -39,8 +39,8 @@ pub(crate) fn add_to_row(log: &[u8], k: usize, to: u64, table: &mut [u64; TRANSA
     requires { ⌜ length (now table) ≡ transactions ⌝ }
     ensures { λ r. ⌜ AddedToRow (now (log .entry)) k to (now (table .entry)) (now (table .exit)) ⌝ }
 {
-    let t = transaction_at(log, k);
-    table[t] = sets::union(table[t], to);
+    let i = transaction_at(log, k);
+    table[i] = sets::union(table[i], to);
 }
 
 // The lowest reason of an edge from i to j, by the edges of each reason.
