@@ -3,10 +3,10 @@
 use Prim.Native.Nat.{ℕ, _<_}
 use native.Mathlib.Omega.{arith}
 use native.Mathlib.Decide.{ℕ-discrete, decLt}
-use mathlib.Core.Path.{_≡_, refl, sym, _∙_, ap}
+use mathlib.Core.Path.{_≡_, refl, sym, _∙_, ap, subst}
 use mathlib.Core.List.{List}
 use mathlib.Core.Bool.{true, not, _||_}
-use mathlib.Core.Option.{Option, none, some}
+use mathlib.Core.Option.{some}
 use mathlib.Core.Logic.{_⊎_, inl, inr, ⊎-elim}
 use lib.Dec.{eqb}
 use borrow.Author.Tests.{eq-eqb, eqb-false, ne-eqb, not-true}
@@ -15,8 +15,8 @@ use Rattle.sets.proofs.Truth.{clash, and-left, and-right, or-hit-left, or-hit-r
 use Rattle.log.specs.Answer.{passed}
 use Rattle.log.specs.Record.{records, transaction, item, copy-of, is-by, is-read, is-write, writes-copy, wrote-item}
 use Rattle.log.specs.Refusal.{check-answer}
-use Rattle.log.specs.Source.{source-record, its-transaction, source}
-use Rattle.log.proofs.Sources.{Sourced, sourced, source-of}
+use Rattle.log.specs.Source.{source-record, source}
+use Rattle.log.proofs.Sources.{Sourced, sourced, source-of, source-record-of}
 use Rattle.log.proofs.Passed.{by-own, by-same, same-copy, writes-copy-found, wrote-copy-found, passed-within, passed-source, passed-own}
 use Rattle.edges.specs.Order.{writes, comes-before, writer-after}
 use Rattle.edges.specs.Reasons.{uses-copy, conflicting, gives-conflict, gives-write-order, gives-read-before, conflict}
@@ -86,26 +86,22 @@ module _ (log : List ℕ) where
   between acyclic e f k l r a b v w own other =
       let first = writes-copy-found log e (copy-of log k) v in
       let second = writes-copy-found log f (copy-of log k) w in
-      let there : serialization-edge log (transaction log k) (transaction log f) ≡ true =
-      rw (← own) (write-then-use e f a (omega arith) (λ q. other (sym q ∙ own)) (first .0) (use-of-write log f (second .0) (copy-of log e) ∙ eq-eqb (copy-of log f) (copy-of log e) (second .1 ∙ sym (first .1)))) in
+      let used = use-of-write log f (second .0) (copy-of log e) ∙ eq-eqb (copy-of log f) (copy-of log e) (second .1 ∙ sym (first .1)) in
+      let there = rw own at (write-then-use e f a (omega arith) (λ q. other (sym q ∙ own)) (first .0) used) in
       let back = write-then-use f k b l other (second .0) (use-of-read log k r (copy-of log f) ∙ eq-eqb (copy-of log k) (copy-of log f) (sym (second .1))) in
       acyclic (transaction log k) (edge-then there (by-edge back))
 
 module _ (log : List ℕ) (sound : check-answer log ≡ passed) where
   -- the source of a read writes the item that is read
   source-writes : (x j i e : ℕ) → ReadsFrom log x j i e → writes log i x ≡ true
-  unfolding source
-  source-writes x j i e r = go (source-record log e) refl (r .from)
-    where
-      go : (o : Option ℕ) → source-record log e ≡ o → its-transaction log o ≡ some i → writes log i x ≡ true
-      go none q h = let z : _≡_ {A = ℕ} 0 1 = cc in absurd (omega arith)
-      go (some f) q h =
-          let s = sourced log e f q in
-          let same : transaction log f ≡ i = cc in
-          let there : f < records log = omega (arith, s .earlier, r .there) in
-          let w = writes-copy-found log f (copy-of log e) (s .writes) in
-          let one-item = same-copy log f e (passed-within log sound f there) (passed-within log sound e (r .there)) (w .1) .0 in
-          writes-hit log i x f there (rw (← same) (by-own log f)) (w .0) (one-item ∙ r .of-item)
+  source-writes x j i e r =
+      let found = source-record-of log e i (r .from) in
+      let f = found .0 in
+      let s = sourced log e f (found .1) in
+      let there : f < records log = omega (arith, s .earlier, r .there) in
+      let w = writes-copy-found log f (copy-of log e) (s .writes) in
+      let one-item = same-copy log f e (passed-within log sound f there) (passed-within log sound e (r .there)) (w .1) .0 in
+      writes-hit log i x f there (subst (λ t. is-by log f t ≡ true) (found .2) (by-own log f)) (w .0) (one-item ∙ r .of-item)
 
   -- THEOREM: the graph induces a write order, with cycles or without
   pub induces-write-order : InducesWriteOrder log (edge log)

@@ -8,8 +8,8 @@ use mathlib.Core.Option.{Option, none, some}
 use mathlib.Core.Logic.{_⊎_, ⊎-elim}
 use Rattle.sets.proofs.Truth.{either, clash}
 use Rattle.log.specs.Record.{transaction, item, is-write}
-use Rattle.log.specs.Source.{source-record, its-transaction, source}
-use Rattle.log.proofs.Sources.{source-of}
+use Rattle.log.specs.Source.{source-record, source}
+use Rattle.log.proofs.Sources.{source-of, source-none}
 use Rattle.edges.specs.Order.{writer-after}
 use Rattle.edges.specs.Reasons.{of-source, gives-write-order, gives-read-before}
 
@@ -49,5 +49,4 @@ module _ (log : List ℕ) (e j : ℕ) where
   read-gives f h = sourced-gives (transaction log f) (source-of log e f h)
 
   pub sourceless-gives : source-record log e ≡ none → gives-read-before log e j ≡ false
-  unfolding source
-  sourceless-gives h = no-source-gives (ap (its-transaction log) h)
+  sourceless-gives h = no-source-gives (source-none log e h)

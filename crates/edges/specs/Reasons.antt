@@ -33,11 +33,12 @@ gives-conflict log e j = some-after log e j (conflicting log e)
 unfoldable pub gives-write-order : List ℕ → ℕ → ℕ → Bool
 gives-write-order log e j = is-write log e && writer-after log (item log e) (transaction log e) j
 
--- 3. "i has a read of some item with source s, j writes that item, j is not s, and s comes before j in the write order"
+-- a source, where there is one, passes the test
 abbrev pub of-source : Option ℕ → (ℕ → Bool) → Bool
 of-source (some s) p = p s
 of-source none p = false
 
+-- 3. "i has a read of some item with source s, j writes that item, j is not s, and s comes before j in the write order"
 unfoldable pub gives-read-before : List ℕ → ℕ → ℕ → Bool
 gives-read-before log e j = of-source (source log e) (λ s. writer-after log (item log e) s j)
 

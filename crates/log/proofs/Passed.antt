@@ -21,10 +21,10 @@ use Rattle.log.specs.Record.{named, committed, wrote-copy, wrote-item, w
 use Rattle.log.specs.Refusal.{too-long, ragged, known-kind, in-range, after-commit, reads-unwritten, reads-past-own}
 use Rattle.log.specs.Refusal.{never-commits}
 use Rattle.log.specs.Refusal.{check-answer}
-use Rattle.log.specs.Source.{source-record, its-transaction, source}
+use Rattle.log.specs.Source.{source-record, source}
 use Rattle.log.proofs.Ranges.{within-record}
 use Rattle.log.proofs.Records.{each-passes}
-use Rattle.log.proofs.Sources.{Sourced, sourced, writes-it}
+use Rattle.log.proofs.Sources.{Sourced, sourced, source-record-of, writes-it}
 use Rattle.log.proofs.Table.{nothing-applies, form-passes, records-pass}
 
 -- what has happened before record k, as facts of single records
@@ -169,16 +169,11 @@ module _ (log : List ℕ) (h : check-answer log ≡ passed) where
 
   -- so its source is a transaction in the log
   pub passed-source-low : (k t : ℕ) → k < records log → source log k ≡ some t → (in-log log t ≡ true) × (t < transactions)
-  unfolding source
-  passed-source-low k t l = go (source-record log k) refl
-    where
-      go : (o : Option ℕ) → source-record log k ≡ o → its-transaction log o ≡ some t → (in-log log t ≡ true) × (t < transactions)
-      go none q r = let z : _≡_ {A = ℕ} 0 1 = cc in absurd (omega arith)
-      go (some e) q r =
-          let s = sourced log k e q in
-          let same : transaction log e ≡ t = cc in
-          let named-it = rw same at (in-log-hit log (transaction log e) e (omega (arith, s .earlier)) (by-own log e)) in
-          (named-it, passed-low t named-it)
+  passed-source-low k t l h =
+      let r = source-record-of log k t h in
+      let s = sourced log k (r .0) (r .1) in
+      let named-it = rw (r .2) at (in-log-hit log (transaction log (r .0)) (r .0) (omega (arith, s .earlier)) (by-own log (r .0))) in
+      (named-it, passed-low t named-it)
 
   -- 8: a read of an item that its transaction wrote earlier is of a copy that it wrote earlier
   pub passed-own : (k : ℕ) → k < records log → is-read log k ≡ true → wrote-item log (transaction log k) (item log k) k ≡ true

@@ -5,7 +5,7 @@ use native.Mathlib.Omega.{arith}
 use mathlib.Core.Path.{_≡_, refl, _∙_, ap}
 use mathlib.Core.List.{List}
 use mathlib.Core.Bool.{Bool, true, false, cond}
-use mathlib.Core.Option.{none, some}
+use mathlib.Core.Option.{Option, none, some}
 use borrow.Author.Tests.{le-leb, lt-leb}
 use Rattle.sets.specs.Search.{last-below}
 use Rattle.sets.proofs.Searches.{last-hit, last-miss, last-found, Last, last-some}
@@ -63,6 +63,18 @@ module _ (log : List ℕ) (k : ℕ) where
   pub source-of : (e : ℕ) → source-record log k ≡ some e → source log k ≡ some (transaction log e)
   unfolding source
   source-of e h = ap (its-transaction log) h
+
+  pub source-none : source-record log k ≡ none → source log k ≡ none
+  unfolding source
+  source-none h = ap (its-transaction log) h
+
+  pub source-record-of : (t : ℕ) → source log k ≡ some t → (e : ℕ) × (source-record log k ≡ some e) × (transaction log e ≡ t)
+  unfolding source
+  source-record-of t = go (source-record log k) refl
+    where
+      go : (o : Option ℕ) → source-record log k ≡ o → its-transaction log o ≡ some t → (e : ℕ) × (source-record log k ≡ some e) × (transaction log e ≡ t)
+      go none q h = let z : _≡_ {A = ℕ} 0 1 = cc in absurd (omega arith)
+      go (some e) q h = let same : transaction log e ≡ t = cc in (e, q, same)
 
   -- the question
   pub asked-refused : {n p : ℕ} → check-answer log ≡ refused n p → source-answer log k ≡ refused n p
