@@ -29,7 +29,7 @@ LaterWriters log = LaterSets log (writes-copy log) (items * sites)
 abbrev pub LaterItemWriters : List ℕ → ℕ → List ℕ → Type 0
 LaterItemWriters log = LaterSets log (writes-item log) items
 
--- for each transaction i those to which a record e of i, from k on, gives an edge
+-- for each transaction i those j of which a record e of i, from k on, says something: that it gives an edge to j, or commits before j
 abbrev pub LaterRows : List ℕ → (ℕ → ℕ → Bool) → ℕ → List ℕ → Type 0
 LaterRows log says k = Holds transactions (λ i j. some-from k (records log) (λ e. is-by log e i && says e j))
 
