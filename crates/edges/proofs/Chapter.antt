@@ -1,5 +1,6 @@
--- The chapter's two conditions and its Lemma 8.1, for every log that passes. Of two writers one comes first, which is an edge; and so is
--- one from a reader of the first to the second. Where a path would run the other way, it would make a cycle. Assumes nothing.
+-- For every log that passes: the chapter's first condition, its second where the graph has no cycle, and its Lemma 8.1. Of two writers
+-- one comes first, which is an edge; and so is one from a reader of the first to the second. A path the other way would make a cycle.
+-- Assumes nothing.
 use Prim.Native.Nat.{ℕ, _<_}
 use native.Mathlib.Omega.{arith}
 use native.Mathlib.Decide.{ℕ-discrete, decLt}

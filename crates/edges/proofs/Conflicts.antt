@@ -1,7 +1,7 @@
 -- Which later records conflict with a record: with a read the writes of its copy, with a write every use of it, with a commit
 -- none. Assumes nothing.
 use Prim.Native.Nat.{ℕ, _+_}
-use mathlib.Core.Path.{_≡_, refl, _∙_, ap}
+use mathlib.Core.Path.{_≡_, refl, sym, _∙_, ap}
 use mathlib.Core.List.{List}
 use mathlib.Core.Bool.{Bool, true, false, _&&_, _||_}
 use mathlib.Core.Logic.{_⊎_, inl, inr}
@@ -10,7 +10,7 @@ use borrow.Author.Tests.{eq-eqb}
 use Rattle.sets.specs.Search.{some-from}
 use Rattle.sets.proofs.Truth.{either, clash, and-always, and-nothing, or-hit-right}
 use Rattle.log.specs.Record.{records, copy-of, is-by, is-read, is-write, writes-copy}
-use Rattle.log.proofs.KindBytes.{read-no-write}
+use Rattle.log.proofs.KindBytes.{read-no-write, writes-copy-of}
 use Rattle.edges.specs.Records.{some-after}
 use Rattle.edges.specs.Reasons.{uses-copy, on-same-copy, conflicting, gives-conflict}
 use Rattle.edges.proofs.Records.{after-found}
@@ -40,9 +40,9 @@ module _ (log : List ℕ) (e : ℕ) where
   own u = u (copy-of log e) ∙ eq-eqb (copy-of log e) (copy-of log e) refl
 
   conflicts-with-read : is-read log e ≡ true → (f : ℕ) → conflicting log e f ≡ writes-copy log f (copy-of log e)
-  unfolding conflicting on-same-copy writes-copy uses-copy
+  unfolding conflicting on-same-copy uses-copy
   conflicts-with-read r f =
-      rw (r, read-no-write log e r, eq-eqb (copy-of log e) (copy-of log e) refl) (users-write (is-read log f) (is-write log f) (eqb (copy-of log f) (copy-of log e)))
+      rw (r, read-no-write log e r, eq-eqb (copy-of log e) (copy-of log e) refl) (users-write (is-read log f) (is-write log f) (eqb (copy-of log f) (copy-of log e)) ∙ sym (writes-copy-of log f (copy-of log e) refl))
 
   pub conflicts-with-write : is-write log e ≡ true → (f : ℕ) → conflicting log e f ≡ uses-copy log f (copy-of log e)
   unfolding conflicting on-same-copy

@@ -1,5 +1,5 @@
--- Which edges a record gives by the write order: a write by reason 2, a record with a source by reason 3. No other file opens what a
--- record gives. Assumes nothing.
+-- Which edges a record gives by the write order: a write by reason 2, a record with a source by reason 3. No other file opens what it
+-- gives for these. Assumes nothing.
 use Prim.Native.Nat.{ℕ}
 use mathlib.Core.Path.{_≡_, refl, sym, _∙_, ap}
 use mathlib.Core.List.{List}

@@ -11,11 +11,12 @@ use Rattle.sets.proofs.Truth.{same-truth, and-true, and-left, and-right, and-al
 use Rattle.sets.proofs.Searches.{some-hit, some-found}
 use Rattle.sets.proofs.From.{from-start, from-end, from-step}
 use Rattle.sets.proofs.Members.{has-zero}
+use Rattle.sets.proofs.Tables.{holds-same}
 use Rattle.sets.proofs.Passes.{all-said}
 use Rattle.log.specs.Answer.{passed}
-use Rattle.log.specs.Record.{items, transaction, records, is-by, is-commit, writes-item, wrote-item, in-log}
+use Rattle.log.specs.Record.{items, transaction, records, is-by, is-commit, writes-item, in-log}
 use Rattle.log.specs.Refusal.{check-answer}
-use Rattle.log.proofs.Passed.{passed-commits, in-log-hit}
+use Rattle.log.proofs.Passed.{by-is, wrote-item-is, passed-commits, in-log-hit}
 use Rattle.edges.specs.Records.{some-after}
 use Rattle.edges.specs.Order.{writes, is-earlier-commit, commits-earlier, comes-before, writer-after}
 use Rattle.edges.specs.Kept.{LaterItemWriters, LaterRows, LaterCommits, KeptOrder}
@@ -31,12 +32,11 @@ module _ (log : List ℕ) where
 
   module _ (k : ℕ) (l : k < records log) {later : ℕ} (w : LaterCommits log (k + 1) later) where
     pub commits-add : (t v : ℕ) → is-commit log k ≡ true → t ≡ transaction log k → ((j : ℕ) → has v j ≡ (has later j || eqb t j)) → LaterCommits log k v
-    unfolding is-by
     commits-add t v e q h =
         record {
           said = λ j.
               h j
-              ∙ ap₂ _||_ (w .said j) (ap (λ (x : ℕ). eqb x j) q ∙ sym (ap (λ (b : Bool). eqb (transaction log k) j && b) e ∙ and-always (eqb (transaction log k) j)))
+              ∙ ap₂ _||_ (w .said j) (ap (λ (x : ℕ). eqb x j) q ∙ sym (by-is log k j) ∙ sym (ap (λ (b : Bool). is-by log k j && b) e ∙ and-always (is-by log k j)))
               ∙ sym (from-step (commits-at j) k (records log) l);
         }
 
@@ -61,8 +61,8 @@ module _ (log : List ℕ) where
 
   -- with the whole log read
   items-whole : {writers : List ℕ} → LaterItemWriters log 0 writers → Holds items (λ x t. writes log t x) writers
-  unfolding writes wrote-item
-  items-whole w = all-said (records log) (λ e x t. is-by log e t && writes-item log e x) w
+  unfolding writes
+  items-whole w = holds-same (all-said (records log) (λ e x t. is-by log e t && writes-item log e x) w) (λ x t. sym (wrote-item-is log t x (records log)))
 
   pub order-whole : {writers after : List ℕ} → LaterItemWriters log 0 writers → LaterRows log (is-earlier-commit log) 0 after → KeptOrder log writers after
   unfolding commits-earlier

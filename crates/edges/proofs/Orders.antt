@@ -1,5 +1,5 @@
 -- The write order by its laws: of two different writers of an item exactly one comes first. A change of the write order moves its
--- definition, this file, what is kept of it (KeptOrders.antt) and src/order.rt. Assumes nothing.
+-- definition, this file, and what is kept of it: `KeptOrder`, KeptOrders.antt, src/order.rt. Assumes nothing.
 use Prim.Native.Nat.{ℕ, _<_}
 use native.Mathlib.Omega.{arith}
 use native.Mathlib.Decide.{ℕ-discrete, decLt}
@@ -11,9 +11,10 @@ use lib.Dec.{eqb}
 use borrow.Author.Tests.{ne-eqb, eqb-false, not-true}
 use Rattle.sets.proofs.Truth.{and-true, and-left, and-right}
 use Rattle.log.specs.Answer.{passed}
-use Rattle.log.specs.Record.{records, item, is-by, is-write, is-commit, writes-item, wrote-item, in-log}
+use Rattle.log.specs.Record.{records, item, is-by, is-write, is-commit, writes-item, in-log}
 use Rattle.log.specs.Refusal.{check-answer}
-use Rattle.log.proofs.Passed.{CommitOf, by-same, commit-of, commit-once, passed-commits, in-log-hit, wrote-item-hit, writes-item-found}
+use Rattle.log.proofs.Passed.{CommitOf, by-same, commit-of, commit-once, passed-commits, in-log-hit, wrote-item-hit, wrote-item-is}
+use Rattle.log.proofs.Passed.{writes-item-found}
 use Rattle.edges.specs.Records.{some-of, some-after}
 use Rattle.edges.specs.Order.{writes, is-earlier-commit, commits-earlier, comes-before, writer-after}
 use Rattle.edges.proofs.Records.{of-found, of-hit, after-found, after-hit}
@@ -21,9 +22,9 @@ use Rattle.edges.proofs.Records.{of-found, of-hit, after-found, after-h
 module _ (log : List ℕ) where
   -- who writes an item has a record that does, and so is in the log
   pub writes-found : (t x : ℕ) → writes log t x ≡ true → (e : ℕ) × (e < records log) × (is-by log e t ≡ true) × (is-write log e ≡ true) × (item log e ≡ x)
-  unfolding writes wrote-item some-of
+  unfolding writes some-of
   writes-found t x h =
-      let w = of-found log t (λ e. writes-item log e x) h in
+      let w = of-found log t (λ e. writes-item log e x) (sym (wrote-item-is log t x (records log)) ∙ h) in
       let v = writes-item-found log (w .0) x (w .3) in
       (w .0, w .1, w .2, v .0, v .1)
 

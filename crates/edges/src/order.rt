@@ -6,7 +6,7 @@ ghost use Rattle.log.specs.Answer.{passed};
 ghost use Rattle.log.specs.Record.{Within, transactions, items, item, in-log};
 ghost use Rattle.log.specs.Refusal.{check-answer};
 ghost use Rattle.edges.specs.Order.{writer-after, is-earlier-commit};
-ghost use Rattle.edges.specs.Kept.{Empty, LaterItemWriters, LaterRows, LaterCommits, KeptOrder};
+ghost use Rattle.edges.specs.Kept.{Empty, LaterRows, LaterCommits, KeptOrder};
 use crate::table::add_to_row;
 use crate::table::add_writer;
 use log::record::COMMIT;

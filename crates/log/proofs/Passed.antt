@@ -11,7 +11,7 @@ use mathlib.Core.Logic.{_⊎_, inl, inr, ⊎-elim}
 use lib.ListN.{length}
 use lib.Dec.{eqb, ltb}
 use borrow.Author.Tests.{ltb-false, eqb-true, eq-eqb, not-false}
-use Rattle.sets.specs.Search.{last-below}
+use Rattle.sets.specs.Search.{some-below, last-below}
 use Rattle.sets.proofs.Truth.{clash, and-true, and-left, and-right, or-cases}
 use Rattle.sets.proofs.Searches.{some-found, some-hit, some-none, Last, last-none, last-view}
 use Rattle.log.specs.Answer.{passed}
@@ -29,6 +29,10 @@ use Rattle.log.proofs.Table.{nothing-applies, form-passes, records-pass
 
 -- what has happened before record k, as facts of single records
 module _ (log : List ℕ) where
+  pub by-is : (k t : ℕ) → is-by log k t ≡ eqb (transaction log k) t
+  unfolding is-by
+  by-is k t = refl
+
   pub by-own : (k : ℕ) → is-by log k (transaction log k) ≡ true
   unfolding is-by
   by-own k = eq-eqb (transaction log k) (transaction log k) refl
@@ -58,10 +62,6 @@ module _ (log : List ℕ) where
   writes-copy-found e c h =
       (and-left (is-write log e) (eqb (copy-of log e) c) h, eqb-true (copy-of log e) c (and-right (is-write log e) (eqb (copy-of log e) c) h))
 
-  pub writes-copy-hit : (e c : ℕ) → is-write log e ≡ true → copy-of log e ≡ c → writes-copy log e c ≡ true
-  unfolding writes-copy
-  writes-copy-hit e c w q = and-true (is-write log e) (eqb (copy-of log e) c) w (eq-eqb (copy-of log e) c q)
-
   pub writes-item-found : (e x : ℕ) → writes-item log e x ≡ true → (is-write log e ≡ true) × (item log e ≡ x)
   unfolding writes-item
   writes-item-found e x h =
@@ -70,6 +70,10 @@ module _ (log : List ℕ) where
   pub wrote-copy-found : (t c k : ℕ) → wrote-copy log t c k ≡ true → (e : ℕ) × (e < k) × ((is-by log e t && writes-copy log e c) ≡ true)
   unfolding wrote-copy
   wrote-copy-found t c k h = some-found (λ e. is-by log e t && writes-copy log e c) k h
+
+  pub wrote-item-is : (t x k : ℕ) → wrote-item log t x k ≡ some-below k (λ e. is-by log e t && writes-item log e x)
+  unfolding wrote-item
+  wrote-item-is t x k = refl
 
   pub wrote-item-hit : (t x e k : ℕ) → e < k → is-by log e t ≡ true → is-write log e ≡ true → item log e ≡ x → wrote-item log t x k ≡ true
   unfolding wrote-item writes-item

@@ -1,16 +1,15 @@
 -- Laws of a pass from the end of n numbers to 0 that keeps, in a table of sets, what the numbers met so far say: nothing at first,
--- what one more number says is stored or is nothing, and at 0 all have been met. Assumes nothing.
+-- what one more number says is added or is nothing, and at 0 all have been met. Assumes nothing.
 use Prim.Native.Nat.{ℕ, _+_, _<_}
 use mathlib.Core.Path.{_≡_, sym, _∙_, ap}
 use mathlib.Core.List.{List}
-use mathlib.Core.Bool.{Bool, false, _&&_, _||_}
-use lib.Dec.{eqb}
+use mathlib.Core.Bool.{Bool, false, _||_}
 use lib.ListN.{getD, set}
 use Rattle.sets.specs.Search.{some-below, some-from}
 use Rattle.sets.specs.Bits.{has, Holds}
 use Rattle.sets.proofs.Truth.{or-nothing}
 use Rattle.sets.proofs.From.{from-end, from-start, from-step}
-use Rattle.sets.proofs.Tables.{holds-same, holds-store}
+use Rattle.sets.proofs.Tables.{holds-same}
 
 -- number e says that j is in the set at i
 module _ (n : ℕ) (says : ℕ → ℕ → ℕ → Bool) where
@@ -29,13 +28,7 @@ module _ (n : ℕ) (says : ℕ → ℕ → ℕ → Bool) where
         holds-same w
         (λ i j. sym (from-step (λ e. says e i j) k n l ∙ ap (λ (b : Bool). some-from (k + 1) n (λ e. says e i j) || b) (f i j) ∙ or-nothing (some-from (k + 1) n (λ e. says e i j))))
 
-    pub said-stored : (c v : ℕ) (joined : ℕ → Bool) → c < wide → ((j : ℕ) → has v j ≡ (has (getD table c 0) j || joined j))
-        → ((i j : ℕ) → says k i j ≡ (eqb c i && joined j)) → SaidFrom wide k (set table c v)
-    said-stored c v joined m h e =
-        holds-store w c v joined m h
-        (λ i j. from-step (λ e. says e i j) k n l ∙ ap (λ (b : Bool). some-from (k + 1) n (λ e. says e i j) || b) (e i j))
-
-    -- any other table with what the number says added
+    -- a table with what the number says added
     pub said-more : {new : List ℕ} → Holds wide (λ i j. has (getD table i 0) j || says k i j) new → SaidFrom wide k new
     said-more v =
         holds-same v (λ i j. ap (λ (b : Bool). b || says k i j) (w .said i j) ∙ sym (from-step (λ e. says e i j) k n l))

@@ -1,5 +1,4 @@
--- Laws of tests: what a conjunction and a disjunction say when they hold and when they fail.
--- Assumes nothing.
+-- Laws of tests: their two cases, conjunctions and disjunctions. Assumes nothing.
 use mathlib.Core.Path.{_≡_, refl, sym, _∙_}
 use mathlib.Core.Bool.{Bool, true, false, _&&_, _||_, true≢false}
 use mathlib.Core.Logic.{_⊎_, inl, inr}

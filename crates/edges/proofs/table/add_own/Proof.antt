@@ -3,12 +3,12 @@ use borrow.Author.Needs.{needs}
 use Prim.Native.Nat.{ℕ}
 use lib.Dec.{eqb}
 use lib.ListN.{length}
-use mathlib.Core.Path.{refl, sym, ap}
-use mathlib.Core.Bool.{_&&_, _||_}
+use mathlib.Core.Path.{refl, sym, _∙_, ap}
+use mathlib.Core.Bool.{Bool, _&&_, _||_}
 use denote.Ref.{now}
 use Rattle.sets.specs.Bits.{in-row, Holds}
 use Rattle.sets.proofs.Tables.{holds-store}
-use Rattle.log.specs.Record.{is-by}
+use Rattle.log.proofs.Passed.{by-is}
 use Rattle.edges.proofs.table.add_own.Statement.{statement}
 use Rattle.edges.proofs.table.add_own.Tie as tie
 
@@ -34,7 +34,6 @@ same-length : tie.Need-same-length
 same-length c = search needs
 
 returns : tie.Need-returns
-unfolding is-by
 returns c =
     let at-transaction = c .before .before in
     let s = at-transaction .before .before .before in
@@ -43,7 +42,7 @@ returns c =
     let t = at-transaction .transaction-at in
     let as-lent : Holds (length old) (in-row old) old = record { whole = refl; said = λ i j. refl } in
     holds-store as-lent at (c .with-member .result) (eqb (t .result)) (s .pre .1) (c .with-member .ensures)
-    (λ d j. ap (λ (x : ℕ). in-row old d j || (eqb at d && eqb x j)) (sym (t .ensures .0)))
+    (λ d j. ap (λ (b : Bool). in-row old d j || (eqb at d && b)) (by-is (now (s .args .log)) (s .args .k) j ∙ ap (λ (x : ℕ). eqb x j) (sym (t .ensures .0))))
 
 pub add-own-spec : {M : Type 1} → statement M
 add-own-spec =

@@ -2,12 +2,13 @@
 use borrow.Author.Needs.{needs}
 use Prim.Native.Nat.{ℕ}
 use lib.Dec.{eqb}
-use mathlib.Core.Path.{refl, sym, ap}
-use mathlib.Core.Bool.{_&&_, _||_}
+use mathlib.Core.Path.{refl, sym, _∙_, ap}
+use mathlib.Core.Bool.{Bool, _&&_, _||_}
 use denote.Ref.{now}
 use Rattle.sets.specs.Bits.{has, in-row, Holds}
 use Rattle.sets.proofs.Tables.{holds-store}
-use Rattle.log.specs.Record.{transactions, is-by}
+use Rattle.log.specs.Record.{transactions}
+use Rattle.log.proofs.Passed.{by-is}
 use Rattle.edges.proofs.table.add_to_row.Statement.{statement}
 use Rattle.edges.proofs.table.add_to_row.Tie as tie
 
@@ -30,7 +31,6 @@ element-write-table : tie.Need-element-write-table
 element-write-table c = search needs
 
 returns : tie.Need-returns
-unfolding is-by
 returns c =
     let at-transaction = c .before .before in
     let s = at-transaction .before .before in
@@ -39,7 +39,7 @@ returns c =
     let t = at-transaction .transaction-at in
     let as-lent : Holds transactions (in-row old) old = record { whole = s .pre .1; said = λ i j. refl } in
     holds-store as-lent (t .result) (c .union .result) (has to) (t .ensures .1) (c .union .ensures)
-    (λ i j. ap (λ (x : ℕ). in-row old i j || (eqb x i && has to j)) (sym (t .ensures .0)))
+    (λ i j. ap (λ (b : Bool). in-row old i j || (b && has to j)) (by-is (now (s .args .log)) (s .args .k) i ∙ ap (λ (x : ℕ). eqb x i) (sym (t .ensures .0))))
 
 pub add-to-row-spec : {M : Type 1} → statement M
 add-to-row-spec =
