@@ -1,5 +1,5 @@
 -- What the chapter asks of a graph, for our logs: SG, reads-from, the two conditions on a graph, and the RDSG. The crawled text has
--- lost subscripts; where it has, the printed book's stand here (docs/DECISIONS.md).
+-- lost subscripts; docs/DECISIONS.md says which were put back here.
 use Prim.Native.Nat.{ℕ, _<_}
 use mathlib.Core.Path.{_≡_}
 use mathlib.Core.List.{List}

@@ -3,7 +3,7 @@ use Prim.Native.Nat.{ℕ}
 use mathlib.Core.Path.{_≡_}
 use mathlib.Core.Bool.{Bool, true}
 
--- "node i precedes node j in a directed graph if there is a path from i to j", of one edge or more
+-- node i precedes node j, as in the chapter: "there is a path" from i to j, here of one edge or more
 pub data Precedes (edge : ℕ → ℕ → Bool) : ℕ → ℕ → Type 0 where
   by-edge : {i j : ℕ} → edge i j ≡ true → Precedes edge i j
   edge-then : {i j k : ℕ} → edge i j ≡ true → Precedes edge j k → Precedes edge i k
