@@ -7,7 +7,7 @@ use mathlib.Core.Bool.{Bool, true, false, _&&_, _||_}
 use lib.Dec.{eqb}
 use Rattle.sets.specs.Search.{some-below, some-from}
 use Rattle.sets.specs.Bits.{has, Holds}
-use Rattle.sets.proofs.Truth.{same-truth, and-true, and-left, and-right, and-always, and-nothing, or-nothing}
+use Rattle.sets.proofs.Truth.{gained, stayed, same-truth, and-true, and-left, and-right}
 use Rattle.sets.proofs.Searches.{some-hit, some-found}
 use Rattle.sets.proofs.From.{from-start, from-end, from-step}
 use Rattle.sets.proofs.Members.{has-zero}
@@ -36,8 +36,8 @@ module _ (log : List ℕ) where
         record {
           said = λ j.
               h j
-              ∙ ap₂ _||_ (w .said j) (ap (λ (x : ℕ). eqb x j) q ∙ sym (by-is log k j) ∙ sym (ap (λ (b : Bool). is-by log k j && b) e ∙ and-always (is-by log k j)))
-              ∙ sym (from-step (commits-at j) k (records log) l);
+              ∙ ap₂ _||_ (w .said j) (ap (λ (x : ℕ). eqb x j) q ∙ sym (by-is log k j))
+              ∙ gained (some-from (k + 1) (records log) (commits-at j)) (is-by log k j) (is-commit log k) e (from-step (commits-at j) k (records log) l);
         }
 
     pub commits-stay : is-commit log k ≡ false → LaterCommits log k later
@@ -45,9 +45,7 @@ module _ (log : List ℕ) where
         record {
           said = λ j.
               w .said j
-              ∙ sym (from-step (commits-at j) k (records log) l
-              ∙ ap (λ (b : Bool). some-from (k + 1) (records log) (commits-at j) || b) (ap (λ (b : Bool). is-by log k j && b) e ∙ and-nothing (is-by log k j))
-              ∙ or-nothing (some-from (k + 1) (records log) (commits-at j)));
+              ∙ stayed (some-from (k + 1) (records log) (commits-at j)) (is-by log k j) (is-commit log k) e (from-step (commits-at j) k (records log) l);
         }
 
   -- a commit stands before all that are kept, and no other record stands before a commit

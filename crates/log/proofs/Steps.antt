@@ -13,7 +13,7 @@ use native.Mathlib.Decide.{ℕ-discrete}
 use borrow.Author.Tests.{eq-eqb, ne-eqb}
 use Rattle.sets.specs.Search.{some-below, first-below}
 use Rattle.sets.specs.Bits.{has}
-use Rattle.sets.proofs.Truth.{clash, and-swap, and-always, and-nothing, or-nothing}
+use Rattle.sets.proofs.Truth.{gained, stayed, clash, and-swap, or-nothing}
 use Rattle.sets.proofs.Searches.{some-more, some-zero, none-some, first-hit, first-stays}
 use Rattle.sets.proofs.Members.{has-zero}
 use Rattle.sets.proofs.Tables.{holds-store, holds-same, holds-none}
@@ -37,10 +37,7 @@ module _ (log : List ℕ) (writes : ℕ → ℕ → Bool) (wide k : ℕ) (table 
   pub writers-stay : ((c : ℕ) → writes k c ≡ false) → KeptWriters log writes wide (k + 1) table
   writers-stay e =
       holds-same w
-      (λ c t.
-      sym (some-more (λ i. is-by log i t && writes i c) k
-      ∙ ap (λ (b : Bool). some-below k (λ i. is-by log i t && writes i c) || b) (ap (λ (b : Bool). is-by log k t && b) (e c) ∙ and-nothing (is-by log k t))
-      ∙ or-nothing (some-below k (λ i. is-by log i t && writes i c))))
+      (λ c t. stayed (some-below k (λ i. is-by log i t && writes i c)) (is-by log k t) (writes k c) (e c) (some-more (λ i. is-by log i t && writes i c) k))
 
 -- before the first record nothing is written
 pub writers-start : (log : List ℕ) (writes : ℕ → ℕ → Bool) (wide : ℕ) → KeptWriters log writes wide 0 (replicate wide 0)
@@ -63,18 +60,15 @@ module _ (log : List ℕ) (k commits : ℕ) (w : KeptCommits log k commits) wher
       record {
         said = λ i.
             h i
-            ∙ ap₂ _||_ (w .said i) (ap (λ (x : ℕ). eqb x i) q ∙ sym (ap (λ (b : Bool). eqb (transaction log k) i && b) e ∙ and-always (eqb (transaction log k) i)))
-            ∙ sym (commits-more i);
+            ∙ ap₂ _||_ (w .said i) (ap (λ (x : ℕ). eqb x i) q)
+            ∙ gained (committed log i k) (is-by log k i) (is-commit log k) e (commits-more i);
       }
 
   pub commits-stay : is-commit log k ≡ false → KeptCommits log (k + 1) commits
   commits-stay e =
       record {
         said = λ t.
-            w .said t
-            ∙ sym (commits-more t
-            ∙ ap (λ (b : Bool). committed log t k || b) (ap (λ (b : Bool). is-by log k t && b) e ∙ and-nothing (is-by log k t))
-            ∙ or-nothing (committed log t k));
+            w .said t ∙ stayed (committed log t k) (is-by log k t) (is-commit log k) e (commits-more t);
       }
 
 -- names

@@ -5,9 +5,9 @@ use mathlib.Core.Path.{refl, _∙_, sym, ap}
 use mathlib.Core.Bool.{Bool, _&&_, _||_}
 use denote.Ref.{now}
 use Rattle.sets.specs.Bits.{in-row}
-use Rattle.sets.proofs.Truth.{and-swap, and-nothing, or-nothing}
+use Rattle.sets.proofs.Truth.{stayed, and-swap}
 use Rattle.sets.proofs.Tables.{holds-same}
-use Rattle.log.specs.Record.{is-by}
+use Rattle.log.specs.Record.{is-by, is-write}
 use Rattle.log.proofs.KindBytes.{byte-is, byte-is-not, write-byte}
 use Rattle.edges.proofs.table.add_writer.Statement.{statement}
 use Rattle.edges.proofs.table.add_writer.Tie as tie
@@ -46,9 +46,7 @@ returns-2 c =
     let silent = byte-is-not (write-byte log k) (c .before .kind-at .ensures) (c .if1 .left) in
     record {
       whole = refl;
-      said = λ d j.
-          sym (ap (λ (b : Bool). in-row old d j || b) (ap (λ (b : Bool). is-by log k j && (b && eqb at d)) silent ∙ and-nothing (is-by log k j))
-          ∙ or-nothing (in-row old d j));
+      said = λ d j. stayed (in-row old d j) (is-by log k j) (is-write log k && eqb at d) (ap (λ (b : Bool). b && eqb at d) silent) refl;
     }
 
 pub add-writer-spec : {M : Type 1} → statement M
