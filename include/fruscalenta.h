@@ -1,7 +1,7 @@
 /* The C face of the checker of replicated logs. Link libclib.a, which `rt staticlib clib` makes (x86-64 Linux).
  *
  * Nothing is asked of a caller but that log points at len readable bytes; it is never null, also where len is 0. Every log of any
- * length and content gets an answer. Nothing is allocated, and nothing is kept between calls. */
+ * length and content, and every table of edges with every set, gets an answer. Nothing is allocated, and nothing is kept between calls. */
 #ifndef FRUSCALENTA_H
 #define FRUSCALENTA_H
 
@@ -32,6 +32,18 @@ struct fruscalenta_answer fruscalenta_source_of_record(const uint8_t *log, size_
 /* The edge from transaction i to transaction j: the lowest of its reasons 1 to 3; or 0 where there is none, where i equals j, or where
  * either is not in the log. Numbers 1, 2, 4 to 9, then 10. A question costs a reading of the whole log. */
 struct fruscalenta_answer fruscalenta_edge_between(const uint8_t *log, size_t len, size_t i, size_t j);
+
+/* A line or a cycle: cycle is 0 or 1, and length is how many members it has. */
+struct fruscalenta_order {
+    uint64_t cycle;
+    uint64_t length;
+};
+
+/* The sort of a table of edges, without a log: bit j of table[i] is the edge from i to j, and bit t of set says that t is in the set. The
+ * answer is the smallest line of the set's members, read from the left, that keeps every edge; or, where there is none, a cycle along the
+ * edges, from its lowest number. Edges from one to itself, and to or from others than the set's members, are ignored. The members are
+ * written to the first length bytes of members, and all others keep their content; table and members must not overlap. */
+struct fruscalenta_order fruscalenta_sort(const uint64_t table[64], uint64_t set, uint8_t members[64]);
 
 #ifdef __cplusplus
 }

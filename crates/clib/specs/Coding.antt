@@ -1,9 +1,12 @@
--- How document 01's answers stand in the three numbers of the C face: the refusal's number and place; or number 0, and then the value.
+-- How document 01's answers stand in the numbers of the C face: the refusal's number and place, or number 0 and then the value; and a
+-- line or a cycle.
 use Prim.Native.Nat.{ℕ}
 use mathlib.Core.Option.{Option, none, some}
 use Rattle.log.specs.Answer.{Answer, gives, refused}
 use Rattle.log.specs.Record.{transactions}
+use Rattle.sort.specs.Rule.{LineOrCycle, line, cycle}
 use Rattle.clib.specs.declared.Coded.{Coded}
+use Rattle.clib.specs.declared.CodedOrder.{CodedOrder}
 
 abbrev pub coded-refusal : ℕ → ℕ → Coded
 coded-refusal n p = record { number = n; place = p; value = 0 }
@@ -25,3 +28,8 @@ source-value none = transactions
 -- a reason is its number
 abbrev pub reason-value : ℕ → ℕ
 reason-value n = n
+
+-- a line or a cycle has the number 0 or 1, and its length
+abbrev pub coded-order : LineOrCycle ℕ → CodedOrder
+coded-order (line n) = record { cycle = 0; length = n }
+coded-order (cycle n) = record { cycle = 1; length = n }

@@ -1,10 +1,13 @@
 // The C face of the checker: exports on byte slices and plain numbers, thin over the crates below. include/fruscalenta.h declares them.
 ghost use mathlib.Core.Path.{_≡_};
+ghost use lib.Seq.{sets};
+ghost use Rattle.sets.specs.Bits.{numbers, has, in-row};
 ghost use Rattle.log.specs.Refusal.{check-answer};
 ghost use Rattle.log.specs.Source.{source-answer};
 ghost use Rattle.log.specs.Numbers.{number-of, place-of};
 ghost use Rattle.edges.specs.Reasons.{edge-answer};
-ghost use Rattle.clib.specs.Coding.{coded, coded-refusal, passed-value, source-value, reason-value};
+ghost use Rattle.sort.specs.Rule.{sorted, members-of, length-of};
+ghost use Rattle.clib.specs.Coding.{coded, coded-refusal, passed-value, source-value, reason-value, coded-order};
 use edges::graph::Edge;
 use edges::graph::edge_between;
 use log::check::check;
@@ -13,6 +16,9 @@ use log::refusal::Checked;
 use log::refusal::Refusal;
 use log::source::Source;
 use log::source::source_of_record;
+use sets::NUMBERS;
+use sort::order::Sorted;
+use sort::order::sort;
 
 // An answer in numbers: the refusal's number and place, or number 0 and then the value. `struct fruscalenta_answer` of the header.
 #[repr(C)]
@@ -20,6 +26,13 @@ pub struct Coded {
     pub number: u64,
     pub place: u64,
     pub value: u64,
+}
+
+// A line or a cycle in numbers: whether it is a cycle, 1 or 0, and how many members it has. `struct fruscalenta_order` of the header.
+#[repr(C)]
+pub struct CodedOrder {
+    pub cycle: u64,
+    pub length: u64,
 }
 
 // The value that stands for "none": one past the highest transaction.
@@ -82,5 +95,28 @@ pub extern "C" fn fruscalenta_edge_between(log: &[u8], i: usize, j: usize) -> Co
             value: n as u64,
         },
         Edge::Refused(r) => refused(r),
+    }
+}
+
+// The line or the cycle of any table of edges and any set. Its members are written to the front of the buffer; all other bytes keep their
+// content.
+#[no_mangle]
+pub extern "C" fn fruscalenta_sort(
+    table: &[u64; NUMBERS],
+    set: u64,
+    members: &mut [u8; NUMBERS],
+) -> CodedOrder
+    ensures { λ a. ⌜ a ≡ coded-order (length-of (sorted numbers (in-row (now (table .entry))) (has set))) ⌝ }
+    ensures { λ a. ⌜ now (members .exit) ≡ sets (now (members .entry)) 0 (members-of (sorted numbers (in-row (now (table .entry))) (has set))) ⌝ }
+{
+    match sort(table, set, members) {
+        Sorted::Line(n) => CodedOrder {
+            cycle: 0,
+            length: n as u64,
+        },
+        Sorted::Cycle(n) => CodedOrder {
+            cycle: 1,
+            length: n as u64,
+        },
     }
 }

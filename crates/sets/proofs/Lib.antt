@@ -4,3 +4,5 @@ pub mod From
 pub mod Members
 pub mod Tables
 pub mod Passes
+pub mod Counts
+pub mod Lowest

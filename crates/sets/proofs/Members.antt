@@ -1,7 +1,7 @@
 -- Laws of the sets of numbers below 64: a bit of 0, of a power of two, of an or and of an and; with a number added or taken out; and that
 -- sets with the same members are one number. Assumes nothing.
-use Prim.Native.Nat.{ℕ, zero, suc, _+_, _*_, _-_, _<_, _/_, _%_, _^_, max, min}
-use native.Mathlib.Nat.{zero-div, div-eq-of-lt, div-self, pow-suc, mul-mod-left, one-mul}
+use Prim.Native.Nat.{ℕ, zero, suc, _+_, _*_, _-_, _<_, _≤_, _/_, _%_, _^_, max, min}
+use native.Mathlib.Nat.{zero-div, div-eq-of-lt, div-self, pow-suc, mul-mod-left, one-mul, lt-of-lt-of-le}
 use native.Mathlib.Decide.{ℕ-discrete, decLt}
 use native.Mathlib.Omega.{arith}
 use mathlib.Core.Path.{_≡_, refl, sym, _∙_, ap, ap₂}
@@ -9,7 +9,7 @@ use mathlib.Core.Bool.{Bool, true, false, not, _&&_, _||_}
 use lib.Dec.{eqb}
 use lib.Arith.{digits-mod, bin-ind}
 use lib.Bits.{bitOr, or-shr, or-step, bitAnd, and-shr, and-step, bitXor, differ, xor-shr, xor-step}
-use lib.Pow.{shr-shr, pow-lt, pow-add, pow-pos, shl-shr, shl-exact}
+use lib.Pow.{shr-shr, pow-lt, pow-mono, pow-add, pow-pos, shl-shr, shl-exact}
 use borrow.Author.Tests.{eq-eqb, ne-eqb, eqb-false}
 use Rattle.sets.specs.Bits.{has}
 use Rattle.sets.proofs.Truth.{clash}
@@ -114,7 +114,7 @@ has-without x i j =
     ∙ taken-out (has x j) (eqb i j)
 
 -- a set without members is 0
-half-has : (x i : ℕ) → has (x / 2) i ≡ has x (suc i)
+pub half-has : (x i : ℕ) → has (x / 2) i ≡ has x (suc i)
 unfolding has
 half-has x i = ap (λ (y : ℕ). eqb (y % 2) 1) (shr-shr x 1 i ∙ ap (λ (j : ℕ). x / 2 ^ j) (omega arith))
 
@@ -126,6 +126,18 @@ pub no-member : (x : ℕ) → ((i : ℕ) → has x i ≡ false) → x ≡ 0
 no-member =
     bin-ind (λ (x : ℕ). ((i : ℕ) → has x i ≡ false) → x ≡ 0) (λ h. refl)
     (λ n ih h. whole-zero n (ih (λ i. half-has n i ∙ h (suc i))) (h 0))
+
+-- a number of k digits has no members from k on
+pub has-low : (x k i : ℕ) → x < 2 ^ k → has x i ≡ true → i < k
+unfolding has
+has-low x k i l h = go (decLt i k)
+  where
+    past : k ≤ i → has x i ≡ false
+    past m = ap (λ (y : ℕ). eqb (y % 2) 1) (div-eq-of-lt (lt-of-lt-of-le l (pow-mono m)))
+
+    go : Dec (i < k) → i < k
+    go (yes m) = m
+    go (no m) = absurd (clash (has x i) h (past (omega (arith, m))))
 
 -- two sets with the same members are one number
 halves : (x y : ℕ) → x / 2 ≡ y / 2 → has x 0 ≡ has y 0 → x ≡ y

@@ -119,6 +119,9 @@ module _ (p : ℕ → Bool) where
       go : First n none → None n
       go (first-none h) = h
 
+  pub first-found : (n : ℕ) {k : ℕ} → first-below n p ≡ some k → First n (some k)
+  first-found n e = rw e at (first-view n)
+
   -- what was found stays the first when more is searched
   pub first-stays : (n j : ℕ) → first-below n p ≡ some j → first-below (n + 1) p ≡ some j
   unfolding first-below

@@ -47,7 +47,7 @@ holds-store {r = r} {s = s} {table = table} w c v joined l h e =
     }
 
 -- the empty table
-empty-entry : (n i : ℕ) → _≡_ {A = ℕ} (getD (replicate n 0) i 0) 0
+pub empty-entry : (n i : ℕ) → _≡_ {A = ℕ} (getD (replicate n 0) i 0) 0
 empty-entry n i = go (decLt i n)
   where
     go : Dec (i < n) → _≡_ {A = ℕ} (getD (replicate n 0) i 0) 0

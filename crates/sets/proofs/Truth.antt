@@ -57,6 +57,12 @@ pub or-hit-right : (a b : Bool) → b ≡ true → (a || b) ≡ true
 or-hit-right true b h = refl
 or-hit-right false b h = h
 
+pub or-swap : (a b : Bool) → (a || b) ≡ (b || a)
+or-swap true true = refl
+or-swap true false = refl
+or-swap false true = refl
+or-swap false false = refl
+
 pub or-nothing : (a : Bool) → (a || false) ≡ a
 or-nothing true = refl
 or-nothing false = refl

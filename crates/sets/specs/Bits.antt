@@ -7,6 +7,10 @@ use mathlib.Core.Bool.{Bool, cond}
 use lib.Dec.{eqb}
 use lib.ListN.{length, getD}
 
+-- how many numbers there are that a set may have: those below 64
+abbrev pub numbers : ℕ
+numbers = 64
+
 -- i is in the set x
 unfoldable pub has : ℕ → ℕ → Bool
 has x i = eqb (x / 2 ^ i % 2) 1

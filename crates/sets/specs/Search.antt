@@ -1,8 +1,8 @@
 -- Searches among the numbers below n, by a test that says yes or no of each number. All definitions of "some", "first" and
 -- "last" in the crates above are one of these.
-use Prim.Native.Nat.{ℕ, zero, suc}
+use Prim.Native.Nat.{ℕ, zero, suc, _+_}
 use mathlib.Core.Bool.{Bool, false, _&&_, _||_, cond}
-use mathlib.Core.Option.{Option, none, some}
+use mathlib.Core.Option.{Option, none, some, Option·getD}
 use lib.Dec.{leb}
 
 -- some number below n passes the test
@@ -28,3 +28,12 @@ or-else none o = o
 unfoldable pub first-below : ℕ → (ℕ → Bool) → Option ℕ
 first-below zero p = none
 first-below (suc n) p = or-else (first-below n p) (cond (p n) (some n) none)
+
+-- the first number below n, from k on, that passes the test; n where there is none
+unfoldable pub first-from : ℕ → ℕ → (ℕ → Bool) → ℕ
+first-from k n p = Option·getD (first-below n (λ e. leb k e && p e)) n
+
+-- how many numbers below n pass the test
+unfoldable pub count-below : ℕ → (ℕ → Bool) → ℕ
+count-below zero p = 0
+count-below (suc n) p = cond (p n) 1 0 + count-below n p

@@ -3,7 +3,11 @@ ghost use mathlib.Core.Path.{_≡_};
 ghost use mathlib.Core.Bool.{_&&_, _||_, not};
 ghost use Prim.Native.Nat.{ℕ, _<_};
 ghost use lib.Dec.{eqb};
-ghost use Rattle.sets.specs.Bits.{has};
+ghost use Rattle.sets.specs.Bits.{numbers, has};
+ghost use Rattle.sets.specs.Search.{first-from};
+
+// How many numbers there are that a set may have: those below 64.
+pub const NUMBERS: usize = 64;
 
 // Whether the set has i.
 pub fn has_member(set: u64, i: usize) -> bool
@@ -42,4 +46,18 @@ pub fn common(a: u64, b: u64) -> u64
     ensures { λ r. ⌜ ((j : ℕ) → has r j ≡ (has a j && has b j)) ⌝ }
 {
     a & b
+}
+
+// The lowest number that the set has from the given one on; NUMBERS where it has none.
+pub fn member_from(set: u64, from: usize) -> usize
+    ensures { λ r. ⌜ r ≡ first-from from numbers (has set) ⌝ }
+{
+    if NUMBERS <= from {
+        return NUMBERS;
+    }
+    let above = set >> from;
+    if above == 0 {
+        return NUMBERS;
+    }
+    from + u64::trailing_zeros(above) as usize
 }

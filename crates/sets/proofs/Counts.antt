@@ -1,0 +1,73 @@
+-- Laws of the count of the numbers below n that pass a test: at most n, none where nothing passes, and one less without one of them.
+-- Assumes nothing.
+use Prim.Native.Nat.{ℕ, zero, suc, _+_, _<_, _≤_}
+use native.Mathlib.Omega.{arith}
+use mathlib.Core.Path.{_≡_, refl, sym, _∙_, ap, ap₂}
+use mathlib.Core.Bool.{Bool, true, false, _&&_, not, cond}
+use mathlib.Core.Logic.{⊎-elim}
+use lib.Dec.{eqb}
+use borrow.Author.Tests.{eq-eqb, ne-eqb}
+use Rattle.sets.specs.Search.{count-below}
+use Rattle.sets.proofs.Truth.{and-always, and-nothing}
+use Rattle.sets.proofs.Searches.{below-cases}
+
+-- at most one for each number
+one-or-none : (b : Bool) → cond b 1 0 ≤ 1
+one-or-none true = omega arith
+one-or-none false = omega arith
+
+pub count-low : (p : ℕ → Bool) (n : ℕ) → count-below n p ≤ n
+unfolding count-below
+count-low p zero = omega arith
+count-low p (suc n) = omega (arith, one-or-none (p n), count-low p n)
+
+-- tests that say the same below n
+pub count-same : (p q : ℕ → Bool) (n : ℕ) → ((e : ℕ) → e < n → p e ≡ q e) → count-below n p ≡ count-below n q
+unfolding count-below
+count-same p q zero h = refl
+count-same p q (suc n) h =
+    ap₂ _+_ (ap (λ (b : Bool). cond b 1 0) (h n (omega arith))) (count-same p q n (λ e l. h e (omega arith)))
+
+-- where there is one, the count is not 0
+pub count-some : (p : ℕ → Bool) (n e : ℕ) → e < n → p e ≡ true → 1 ≤ count-below n p
+unfolding count-below
+count-some p zero e l h = absurd (omega arith)
+count-some p (suc n) e l h =
+    ⊎-elim (λ (m : e < n). omega (arith, count-some p n e m h)) (λ (q : e ≡ n). here q) (below-cases n e l)
+  where
+    here : e ≡ n → 1 ≤ cond (p n) 1 0 + count-below n p
+    here q = rw (ap p (sym q) ∙ h) (omega arith)
+
+-- without one of them
+module _ (p : ℕ → Bool) (t : ℕ) where
+  others : ℕ → Bool
+  others s = p s && not (eqb t s)
+
+  other-same : (s : ℕ) → (t ≡ s → ⊥) → p s ≡ others s
+  unfolding others
+  other-same s q = sym (ap (λ (b : Bool). p s && not b) (ne-eqb t s q) ∙ and-always (p s))
+
+  other-itself : others t ≡ false
+  unfolding others
+  other-itself = ap (λ (b : Bool). p t && not b) (eq-eqb t t refl) ∙ and-nothing (p t)
+
+  one-less : (n : ℕ) → t < n → p t ≡ true → count-below n p ≡ suc (count-below n others)
+  unfolding count-below
+  one-less zero l h = absurd (omega arith)
+  one-less (suc n) l h = ⊎-elim (λ (m : t < n). before m (one-less n m h)) (λ (q : t ≡ n). here q) (below-cases n t l)
+    where
+      before : t < n → count-below n p ≡ suc (count-below n others)
+          → cond (p n) 1 0 + count-below n p ≡ suc (cond (others n) 1 0 + count-below n others)
+      before m e = rw (e, other-same n (λ (z : t ≡ n). omega (arith, m, z))) (omega arith)
+
+      here : t ≡ n → cond (p n) 1 0 + count-below n p ≡ suc (cond (others n) 1 0 + count-below n others)
+      here q = rw (
+        ← q,
+        h,
+        other-itself,
+        count-same p others t (λ e m. other-same e (λ (z : t ≡ e). omega (arith, m, z))),
+      ) (omega arith)
+
+  pub count-without : (n : ℕ) → t < n → p t ≡ true → count-below n p ≡ suc (count-below n (λ s. p s && not (eqb t s)))
+  unfolding others
+  count-without n l h = one-less n l h

@@ -1,0 +1,141 @@
+-- Laws of the rule's tests: who is a predecessor, who is ready, who is next, who is left when one is placed. Assumes nothing.
+use Prim.Native.Nat.{ℕ, zero, suc, _<_, _≤_}
+use native.Mathlib.Omega.{arith}
+use mathlib.Core.Path.{_≡_, refl, sym, _∙_, ap}
+use mathlib.Core.Bool.{Bool, true, false, _&&_, not}
+use mathlib.Core.Option.{Option, none, some}
+use lib.Dec.{eqb}
+use borrow.Author.Tests.{eq-eqb, ne-eqb, eqb-false, not-true}
+use Rattle.sets.specs.Search.{some-below, first-below, count-below}
+use Rattle.sets.proofs.Truth.{clash, either, and-true, and-left, and-right, and-always, and-nothing}
+use Rattle.sets.proofs.Searches.{None, First, first-some, first-found, some-none, none-some, first-view, first-none-below, first-miss, some-found}
+use Rattle.sets.proofs.Counts.{count-without, count-same}
+use Rattle.sort.specs.Rule.{predecessor, without, ready, next}
+use Rattle.sort.specs.Lines.{edge-within}
+
+-- those left without t
+module _ (left : ℕ → Bool) (t : ℕ) where
+  pub without-said : (s : ℕ) → (left s && not (eqb t s)) ≡ without left t s
+  unfolding without
+  without-said s = refl
+
+  pub without-itself : without left t t ≡ false
+  without-itself = sym (without-said t) ∙ ap (λ (b : Bool). left t && not b) (eq-eqb t t refl) ∙ and-nothing (left t)
+
+  pub without-other : (s : ℕ) → (t ≡ s → ⊥) → without left t s ≡ left s
+  without-other s q = sym (without-said s) ∙ ap (λ (b : Bool). left s && not b) (ne-eqb t s q) ∙ and-always (left s)
+
+  pub still-left : (s : ℕ) → without left t s ≡ true → left s ≡ true
+  still-left s h = and-left (left s) (not (eqb t s)) (without-said s ∙ h)
+
+  pub not-placed : (s : ℕ) → without left t s ≡ true → t ≡ s → ⊥
+  not-placed s h = eqb-false t s (not-true (eqb t s) (and-right (left s) (not (eqb t s)) (without-said s ∙ h)))
+
+  pub one-fewer : (n : ℕ) → t < n → left t ≡ true → count-below n left ≡ suc (count-below n (without left t))
+  one-fewer n l h =
+      count-without left t n l h ∙ ap suc (count-same (λ s. left s && not (eqb t s)) (without left t) n (λ s m. without-said s))
+
+module _ (edge : ℕ → ℕ → Bool) where
+  -- a predecessor among those left
+  module _ (left : ℕ → Bool) (t s : ℕ) where
+    pub is-predecessor : left s ≡ true → (s ≡ t → ⊥) → edge s t ≡ true → predecessor edge left t s ≡ true
+    unfolding predecessor
+    is-predecessor l q e =
+        and-true (left s) (not (eqb s t) && edge s t) l (and-true (not (eqb s t)) (edge s t) (ap not (ne-eqb s t q)) e)
+
+    pub predecessor-left : predecessor edge left t s ≡ true → left s ≡ true
+    unfolding predecessor
+    predecessor-left h = and-left (left s) (not (eqb s t) && edge s t) h
+
+    pub predecessor-other : predecessor edge left t s ≡ true → s ≡ t → ⊥
+    unfolding predecessor
+    predecessor-other h = eqb-false s t (not-true (eqb s t) (and-left (not (eqb s t)) (edge s t) (and-right (left s) (not (eqb s t) && edge s t) h)))
+
+    pub predecessor-edge : predecessor edge left t s ≡ true → edge s t ≡ true
+    unfolding predecessor
+    predecessor-edge h = and-right (not (eqb s t)) (edge s t) (and-right (left s) (not (eqb s t) && edge s t) h)
+
+  -- an edge between two different members
+  module _ (set : ℕ → Bool) (s t : ℕ) where
+    pub is-within : set s ≡ true → set t ≡ true → (s ≡ t → ⊥) → edge s t ≡ true → edge-within edge set s t ≡ true
+    unfolding edge-within
+    is-within a b q e =
+        and-true (set s && set t) (not (eqb s t) && edge s t) (and-true (set s) (set t) a b) (and-true (not (eqb s t)) (edge s t) (ap not (ne-eqb s t q)) e)
+
+    pub within-from : edge-within edge set s t ≡ true → set s ≡ true
+    unfolding edge-within
+    within-from h = and-left (set s) (set t) (and-left (set s && set t) (not (eqb s t) && edge s t) h)
+
+    pub within-to : edge-within edge set s t ≡ true → set t ≡ true
+    unfolding edge-within
+    within-to h = and-right (set s) (set t) (and-left (set s && set t) (not (eqb s t) && edge s t) h)
+
+    pub within-other : edge-within edge set s t ≡ true → s ≡ t → ⊥
+    unfolding edge-within
+    within-other h =
+        eqb-false s t (not-true (eqb s t) (and-left (not (eqb s t)) (edge s t) (and-right (set s && set t) (not (eqb s t) && edge s t) h)))
+
+    pub within-edge : edge-within edge set s t ≡ true → edge s t ≡ true
+    unfolding edge-within
+    within-edge h = and-right (not (eqb s t)) (edge s t) (and-right (set s && set t) (not (eqb s t) && edge s t) h)
+
+  -- the edges between members of a larger set
+  pub within-more : (small large : ℕ → Bool) → ((t : ℕ) → small t ≡ true → large t ≡ true)
+      → (s t : ℕ) → edge-within edge small s t ≡ true → edge-within edge large s t ≡ true
+  within-more small large m s t h =
+      is-within large s t (m s (within-from small s t h)) (m t (within-to small s t h)) (within-other small s t h) (within-edge small s t h)
+
+  -- who is ready, and who is next
+  module _ (n : ℕ) (left : ℕ → Bool) where
+    pub is-ready : (t : ℕ) → left t ≡ true → None (predecessor edge left t) n → ready n edge left t ≡ true
+    unfolding ready
+    is-ready t l f =
+        and-true (left t) (not (some-below n (predecessor edge left t))) l (ap not (some-none (predecessor edge left t) n f))
+
+    pub ready-left : (t : ℕ) → ready n edge left t ≡ true → left t ≡ true
+    unfolding ready
+    ready-left t h = and-left (left t) (not (some-below n (predecessor edge left t))) h
+
+    pub ready-free : (t : ℕ) → ready n edge left t ≡ true → None (predecessor edge left t) n
+    unfolding ready
+    ready-free t h =
+        none-some (predecessor edge left t) n
+        (not-true (some-below n (predecessor edge left t)) (and-right (left t) (not (some-below n (predecessor edge left t))) h))
+
+    pub not-ready-out : (t : ℕ) → left t ≡ false → ready n edge left t ≡ false
+    unfolding ready
+    not-ready-out t f = rw f refl
+
+    pub not-ready-waits : (t s : ℕ) → s < n → predecessor edge left t s ≡ true → ready n edge left t ≡ false
+    not-ready-waits t s l h = go (ready n edge left t) refl
+      where
+        go : (b : Bool) → ready n edge left t ≡ b → b ≡ false
+        go true e = absurd (clash (predecessor edge left t s) h (ready-free t e s l))
+        go false e = refl
+
+    pub next-view : First (ready n edge left) n (next n edge left)
+    unfolding next
+    next-view = first-view (ready n edge left) n
+
+    pub next-is : (t : ℕ) → next n edge left ≡ some t → (t < n) × (left t ≡ true)
+    unfolding next
+    next-is t e = go (first-found (ready n edge left) n e)
+      where
+        go : First (ready n edge left) n (some t) → (t < n) × (left t ≡ true)
+        go (first-some l r f) = (l, ready-left t r)
+
+    pub next-none : next n edge left ≡ none → None (ready n edge left) n
+    unfolding next
+    next-none e = first-none-below (ready n edge left) n e
+
+    pub none-next : None (ready n edge left) n → next n edge left ≡ none
+    unfolding next
+    none-next h = first-miss (ready n edge left) n h
+
+    -- whoever is left and not ready waits for a predecessor
+    pub waiting : (t : ℕ) → left t ≡ true → ready n edge left t ≡ false → (s : ℕ) × (predecessor edge left t s ≡ true)
+    waiting t l f = go (some-below n (predecessor edge left t)) refl
+      where
+        go : (b : Bool) → some-below n (predecessor edge left t) ≡ b → (s : ℕ) × (predecessor edge left t s ≡ true)
+        go true e = let w = some-found (predecessor edge left t) n e in (w .0, w .2)
+        go false e = absurd (clash (ready n edge left t) (is-ready t l (none-some (predecessor edge left t) n e)) f)

@@ -1,0 +1,11 @@
+pub mod Lists
+pub mod Chosen
+pub mod Placing
+pub mod Rings
+pub mod Sorts
+pub mod Waits
+pub mod Parts
+pub mod Runs
+pub mod Walks
+pub mod Cut
+pub mod Ends

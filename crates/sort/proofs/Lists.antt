@@ -1,0 +1,174 @@
+-- Laws of lists of numbers: what is among them, the place of a number, none twice, and that numbers of a set without one twice are no
+-- more than the set has. Assumes nothing.
+use Prim.Native.Nat.{ℕ, zero, suc, _+_, _<_, _≤_}
+use native.Mathlib.Omega.{arith}
+use native.Mathlib.Decide.{ℕ-discrete}
+use mathlib.Core.Path.{_≡_, refl, sym, _∙_, ap, subst}
+use mathlib.Core.Bool.{Bool, true, false, _&&_, _||_, not, cond}
+use mathlib.Core.Logic.{_⊎_, inl, inr, ⊎-elim}
+use mathlib.Core.List.{List, [], _∷_, _++_}
+use lib.Dec.{eqb}
+use lib.ListN.{length, take, getD}
+use borrow.Author.Tests.{eq-eqb, ne-eqb, eqb-true, eqb-false}
+use Rattle.sets.specs.Search.{count-below}
+use Rattle.sets.proofs.Truth.{clash, either, and-true, or-cases, or-hit-left, or-hit-right, or-left, or-right, or-false}
+use Rattle.sets.proofs.Counts.{count-without}
+use Rattle.sort.specs.Rule.{among, place-of}
+use Rattle.sort.specs.Lines.{NoneTwice, stands-before}
+
+-- what is among them
+pub among-nil : (t : ℕ) → among [] t ≡ false
+unfolding among
+among-nil t = refl
+
+pub among-cons : (x : ℕ) (xs : List ℕ) (t : ℕ) → among (x ∷ xs) t ≡ (eqb x t || among xs t)
+unfolding among
+among-cons x xs t = refl
+
+pub among-first : (x : ℕ) (xs : List ℕ) → among (x ∷ xs) x ≡ true
+among-first x xs = among-cons x xs x ∙ or-hit-left (eqb x x) (among xs x) (eq-eqb x x refl)
+
+pub among-later : (x : ℕ) (xs : List ℕ) (t : ℕ) → among xs t ≡ true → among (x ∷ xs) t ≡ true
+among-later x xs t h = among-cons x xs t ∙ or-hit-right (eqb x t) (among xs t) h
+
+pub among-cases : (x : ℕ) (xs : List ℕ) (t : ℕ) → among (x ∷ xs) t ≡ true → (x ≡ t) ⊎ (among xs t ≡ true)
+among-cases x xs t h =
+    ⊎-elim (λ (e : eqb x t ≡ true). inl (eqb-true x t e)) (λ (e : among xs t ≡ true). inr e)
+    (or-cases (eqb x t) (among xs t) (sym (among-cons x xs t) ∙ h))
+
+pub among-other : (x : ℕ) (xs : List ℕ) (t : ℕ) → (x ≡ t → ⊥) → among (x ∷ xs) t ≡ among xs t
+among-other x xs t q = among-cons x xs t ∙ ap (λ (b : Bool). b || among xs t) (ne-eqb x t q)
+
+-- two different truths belong to two different numbers
+pub differ : (p : ℕ → Bool) (x y : ℕ) → p x ≡ true → p y ≡ false → x ≡ y → ⊥
+differ p x y t f e = clash (p y) (ap p (sym e) ∙ t) f
+
+pub among-append : (xs ys : List ℕ) (t : ℕ) → among (xs ++ ys) t ≡ (among xs t || among ys t)
+unfolding among
+among-append [] ys t = refl
+among-append (x ∷ xs) ys t = ap (λ (b : Bool). eqb x t || b) (among-append xs ys t) ∙ regroup (eqb x t) (among xs t) (among ys t)
+  where
+    regroup : (a b c : Bool) → (a || (b || c)) ≡ ((a || b) || c)
+    regroup true b c = refl
+    regroup false b c = refl
+
+-- none twice in two lists, one after the other: none twice in either, and nothing in both
+abbrev pub Apart : List ℕ → List ℕ → Type 0
+Apart xs ys = (t : ℕ) → among xs t ≡ true → among ys t ≡ false
+
+pub twice-split : (xs ys : List ℕ) → NoneTwice (xs ++ ys) → NoneTwice xs × NoneTwice ys × Apart xs ys
+twice-split [] ys h = (tt, h, λ t a. absurd (clash (among [] t) a (among-nil t)))
+twice-split (x ∷ xs) ys h = after (twice-split xs ys (h .1))
+  where
+    apart : among (xs ++ ys) x ≡ false → (among xs x ≡ false) × (among ys x ≡ false)
+    apart f = let e = sym (among-append xs ys x) ∙ f in (or-left (among xs x) (among ys x) e, or-right (among xs x) (among ys x) e)
+
+    after : NoneTwice xs × NoneTwice ys × Apart xs ys → NoneTwice (x ∷ xs) × NoneTwice ys × Apart (x ∷ xs) ys
+    after w = ((apart (h .0) .0, w .0), w .1, λ t a. ⊎-elim (λ (e : x ≡ t). ap (among ys) (sym e) ∙ apart (h .0) .1) (λ (e : among xs t ≡ true). w .2 t e) (among-cases x xs t a))
+
+pub twice-join : (xs ys : List ℕ) → NoneTwice xs → NoneTwice ys → Apart xs ys → NoneTwice (xs ++ ys)
+twice-join [] ys h k a = k
+twice-join (x ∷ xs) ys h k a = (
+  among-append xs ys x ∙ or-false (among xs x) (among ys x) (h .0) (a x (among-first x xs)),
+  twice-join xs ys (h .1) k (λ t e. a t (among-later x xs t e)),
+)
+
+apart-back : (xs ys : List ℕ) → Apart xs ys → Apart ys xs
+apart-back xs ys a t e =
+    ⊎-elim (λ (h : among xs t ≡ true). absurd (clash (among ys t) e (a t h))) (λ (h : among xs t ≡ false). h) (either (among xs t))
+
+pub twice-swap : (xs ys : List ℕ) → NoneTwice (xs ++ ys) → NoneTwice (ys ++ xs)
+twice-swap xs ys h = let w = twice-split xs ys h in twice-join ys xs (w .1) (w .0) (apart-back xs ys (w .2))
+
+-- the list up to and with the first s in it
+pub record UpTo (s : ℕ) (xs : List ℕ) : Type 0 where
+  pub before : List ℕ
+  pub after : List ℕ
+  pub whole : xs ≡ before ++ s ∷ after
+  pub part : take (suc (place-of s xs)) xs ≡ before ++ s ∷ []
+
+place-nil : (s : ℕ) → place-of s [] ≡ 0
+unfolding place-of
+place-nil s = refl
+
+place-same : (x : ℕ) (xs : List ℕ) (s : ℕ) → x ≡ s → place-of s (x ∷ xs) ≡ 0
+unfolding place-of
+place-same x xs s q = rw (eq-eqb x s q) refl
+
+place-other : (x : ℕ) (xs : List ℕ) (s : ℕ) → (x ≡ s → ⊥) → place-of s (x ∷ xs) ≡ suc (place-of s xs)
+unfolding place-of
+place-other x xs s q = rw (ne-eqb x s q) refl
+
+pub up-to : (s : ℕ) (xs : List ℕ) → among xs s ≡ true → UpTo s xs
+up-to s [] h = absurd (clash (among [] s) h (among-nil s))
+up-to s (x ∷ xs) h = go (ℕ-discrete x s) (λ q. up-to s xs (sym (among-other x xs s q) ∙ h))
+  where
+    go : Dec (x ≡ s) → ((x ≡ s → ⊥) → UpTo s xs) → UpTo s (x ∷ xs)
+    go (yes q) w =
+        record {
+          before = [];
+          after = xs;
+          whole = ap (λ (y : ℕ). y ∷ xs) q;
+          part = ap (λ (k : ℕ). take (suc k) (x ∷ xs)) (place-same x xs s q) ∙ ap (λ (y : ℕ). y ∷ []) q;
+        }
+    go (no q) w =
+        record {
+          before = x ∷ w q .before;
+          after = w q .after;
+          whole = ap (λ (ys : List ℕ). x ∷ ys) (w q .whole);
+          part = ap (λ (k : ℕ). take (suc k) (x ∷ xs)) (place-other x xs s q) ∙ ap (λ (ys : List ℕ). x ∷ ys) (w q .part);
+        }
+
+-- the place of a number that is in the list
+pub place-low : (s : ℕ) (xs : List ℕ) → among xs s ≡ true → place-of s xs < length xs
+place-low s [] h = absurd (clash (among [] s) h (among-nil s))
+place-low s (x ∷ xs) h = go (ℕ-discrete x s) (λ q. place-low s xs (sym (among-other x xs s q) ∙ h))
+  where
+    go : Dec (x ≡ s) → ((x ≡ s → ⊥) → place-of s xs < length xs) → place-of s (x ∷ xs) < suc (length xs)
+    go (yes q) l = rw (place-same x xs s q) (omega arith)
+    go (no q) l = rw (place-other x xs s q) (omega (arith, l q))
+
+pub place-entry : (s : ℕ) (xs : List ℕ) → among xs s ≡ true → getD xs (place-of s xs) 0 ≡ s
+place-entry s [] h = absurd (clash (among [] s) h (among-nil s))
+place-entry s (x ∷ xs) h = go (ℕ-discrete x s) (λ q. place-entry s xs (sym (among-other x xs s q) ∙ h))
+  where
+    go : Dec (x ≡ s) → ((x ≡ s → ⊥) → getD xs (place-of s xs) 0 ≡ s) → getD (x ∷ xs) (place-of s (x ∷ xs)) 0 ≡ s
+    go (yes q) e = ap (λ (k : ℕ). getD (x ∷ xs) k 0) (place-same x xs s q) ∙ q
+    go (no q) e = ap (λ (k : ℕ). getD (x ∷ xs) k 0) (place-other x xs s q) ∙ e q
+
+-- a place where s stands, and no s before it
+pub place-is : (s : ℕ) (xs : List ℕ) (k : ℕ) → k < length xs → getD xs k 0 ≡ s → ((j : ℕ) → j < k → getD xs j 0 ≡ s → ⊥) → place-of s xs ≡ k
+place-is s [] k l e h = absurd (omega arith)
+place-is s (x ∷ xs) zero l e h = place-same x xs s e
+place-is s (x ∷ xs) (suc k) l e h =
+    place-other x xs s (h 0 (omega arith)) ∙ ap suc (place-is s xs k (omega (arith, l)) e (λ j m. h (suc j) (omega (arith, m))))
+
+-- no s stands before it
+pub place-before : (s : ℕ) (xs : List ℕ) (j : ℕ) → j < place-of s xs → getD xs j 0 ≡ s → ⊥
+place-before s [] j l e = omega (arith, subst (λ (k : ℕ). j < k) (place-nil s) l)
+place-before s (x ∷ xs) j l e = go (ℕ-discrete x s) j l e (λ i. place-before s xs i)
+  where
+    go : Dec (x ≡ s) → (j : ℕ) → j < place-of s (x ∷ xs) → getD (x ∷ xs) j 0 ≡ s → ((i : ℕ) → i < place-of s xs → getD xs i 0 ≡ s → ⊥) → ⊥
+    go (yes q) j l e ih = omega (arith, subst (λ (k : ℕ). j < k) (place-same x xs s q) l)
+    go (no q) zero l e ih = q e
+    go (no q) (suc i) l e ih = ih i (omega (arith, subst (λ (k : ℕ). suc i < k) (place-other x xs s q) l)) e
+
+-- an entry is among the list
+pub among-entry : (xs : List ℕ) (k : ℕ) → k < length xs → among xs (getD xs k 0) ≡ true
+among-entry [] k l = absurd (omega arith)
+among-entry (x ∷ xs) zero l = among-first x xs
+among-entry (x ∷ xs) (suc k) l = among-later x xs (getD xs k 0) (among-entry xs k (omega (arith, l)))
+
+-- numbers of a set, none twice, are no more than the set has below n
+pub pigeonhole : (n : ℕ) (p : ℕ → Bool) (xs : List ℕ) → NoneTwice xs → ((t : ℕ) → among xs t ≡ true → (t < n) × (p t ≡ true))
+    → length xs ≤ count-below n p
+pigeonhole n p [] h m = omega arith
+pigeonhole n p (x ∷ xs) h m = rw (count-without p x n (m x (among-first x xs) .0) (m x (among-first x xs) .1)) (more (pigeonhole n (λ s. p s && not (eqb x s)) xs (h .1) others))
+  where
+    more : length xs ≤ count-below n (λ s. p s && not (eqb x s)) → suc (length xs) ≤ suc (count-below n (λ s. p s && not (eqb x s)))
+    more l = omega (arith, l)
+
+    others : (t : ℕ) → among xs t ≡ true → (t < n) × ((p t && not (eqb x t)) ≡ true)
+    others t a =
+        let w = m t (among-later x xs t a) in
+        (w .0, and-true (p t) (not (eqb x t)) (w .1) (ap not (ne-eqb x t (λ (e : x ≡ t). differ (among xs) t x a (h .0) (sym e)))))

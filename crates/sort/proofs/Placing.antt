@@ -1,0 +1,263 @@
+-- The line. Placing one that is ready, again and again until none is left, gives a line that keeps every edge, and every such line is made
+-- in that way; the rule's is the smallest, since it takes the lowest that any of them could take. From a stuck rest there is none: of the
+-- rest, somebody would stand first in it, before the predecessor that he waits for. Assumes nothing.
+use Prim.Native.Nat.{ℕ, zero, suc, _+_, _<_, _≤_}
+use native.Mathlib.Omega.{arith}
+use native.Mathlib.Decide.{ℕ-discrete, decLt}
+use mathlib.Core.Path.{_≡_, refl, sym, _∙_, ap, subst}
+use mathlib.Core.Bool.{Bool, true, false, _&&_, _||_, not}
+use mathlib.Core.Logic.{_⊎_, inl, inr, ⊎-elim}
+use mathlib.Core.List.{List, [], _∷_, _++_}
+use mathlib.Core.Option.{Option, none, some, Option·elim}
+use lib.Dec.{eqb}
+use borrow.Author.Tests.{eq-eqb, ne-eqb, eqb-true}
+use Rattle.sets.specs.Search.{some-below, first-below, count-below}
+use Rattle.sets.specs.Paths.{Precedes, by-edge, edge-then, Acyclic}
+use Rattle.sets.proofs.Truth.{clash, either, and-true, and-left, and-right, or-cases, or-hit-left, or-hit-right}
+use Rattle.sets.proofs.Searches.{None, First, first-none, first-some}
+use Rattle.sets.proofs.Counts.{count-some}
+use Rattle.sort.specs.Rule.{among, predecessor, without, ready, next, placed, rest}
+use Rattle.sort.specs.Lines.{NoneTwice, stands-before, edge-within, Below, Line, AtMost, ended, smaller, same-first, Stuck}
+use Rattle.sort.proofs.Lists.{among-nil, among-cons, among-first, among-later, among-cases, among-other, differ}
+use Rattle.sort.proofs.Chosen.{without-itself, without-other, still-left, not-placed, one-fewer}
+use Rattle.sort.proofs.Chosen.{is-predecessor, predecessor-left, predecessor-other, predecessor-edge}
+use Rattle.sort.proofs.Chosen.{is-within, within-from, within-to, within-other, within-edge, within-more}
+use Rattle.sort.proofs.Chosen.{is-ready, ready-left, ready-free, not-ready-out, not-ready-waits, next-view, next-none, none-next}
+
+-- who stands before whom
+stands-nil : (s t : ℕ) → stands-before [] s t ≡ false
+unfolding stands-before
+stands-nil s t = refl
+
+stands-first : (x : ℕ) (xs : List ℕ) (t : ℕ) → among xs t ≡ true → stands-before (x ∷ xs) x t ≡ true
+unfolding stands-before
+stands-first x xs t a =
+    or-hit-left (eqb x x && among xs t) (stands-before xs x t) (and-true (eqb x x) (among xs t) (eq-eqb x x refl) a)
+
+stands-later : (x : ℕ) (xs : List ℕ) (s t : ℕ) → stands-before xs s t ≡ true → stands-before (x ∷ xs) s t ≡ true
+unfolding stands-before
+stands-later x xs s t h = or-hit-right (eqb x s && among xs t) (stands-before xs s t) h
+
+stands-cases : (x : ℕ) (xs : List ℕ) (s t : ℕ) → stands-before (x ∷ xs) s t ≡ true → ((x ≡ s) × (among xs t ≡ true)) ⊎ (stands-before xs s t ≡ true)
+unfolding stands-before
+stands-cases x xs s t h =
+    ⊎-elim
+    (λ (a : (eqb x s && among xs t) ≡ true). inl (eqb-true x s (and-left (eqb x s) (among xs t) a), and-right (eqb x s) (among xs t) a))
+    (λ (b : stands-before xs s t ≡ true). inr b)
+    (or-cases (eqb x s && among xs t) (stands-before xs s t) h)
+
+-- whoever stands after somebody is in the list, and not first in it
+stands-among : (xs : List ℕ) (s t : ℕ) → stands-before xs s t ≡ true → among xs t ≡ true
+stands-among [] s t h = absurd (clash (stands-before [] s t) h (stands-nil s t))
+stands-among (x ∷ xs) s t h =
+    ⊎-elim (λ (w : (x ≡ s) × (among xs t ≡ true)). among-later x xs t (w .1)) (λ (w : stands-before xs s t ≡ true). among-later x xs t (stands-among xs s t w))
+    (stands-cases x xs s t h)
+
+after-first : (x : ℕ) (xs : List ℕ) (s t : ℕ) → stands-before (x ∷ xs) s t ≡ true → among xs t ≡ true
+after-first x xs s t h =
+    ⊎-elim (λ (w : (x ≡ s) × (among xs t ≡ true)). w .1) (λ (w : stands-before xs s t ≡ true). stands-among xs s t w) (stands-cases x xs s t h)
+
+stands-not-itself : (xs : List ℕ) (t : ℕ) → NoneTwice xs → stands-before xs t t ≡ true → ⊥
+stands-not-itself [] t d h = clash (stands-before [] t t) h (stands-nil t t)
+stands-not-itself (x ∷ xs) t d h =
+    ⊎-elim (λ (w : (x ≡ t) × (among xs t ≡ true)). clash (among xs x) (ap (among xs) (w .0) ∙ w .1) (d .0))
+    (λ (w : stands-before xs t t ≡ true). stands-not-itself xs t (d .1) w)
+    (stands-cases x xs t t h)
+
+stands-through : (xs : List ℕ) (r s t : ℕ) → NoneTwice xs → stands-before xs r s ≡ true → stands-before xs s t ≡ true → stands-before xs r t ≡ true
+stands-through [] r s t d h k = absurd (clash (stands-before [] r s) h (stands-nil r s))
+stands-through (x ∷ xs) r s t d h k =
+    ⊎-elim (λ (w : (x ≡ s) × (among xs t ≡ true)). absurd (clash (among xs x) (ap (among xs) (w .0) ∙ after-first x xs r s h) (d .0)))
+    (λ (w : stands-before xs s t ≡ true). ⊎-elim
+    (λ (v : (x ≡ r) × (among xs s ≡ true)). subst (λ (y : ℕ). stands-before (x ∷ xs) y t ≡ true) (v .0) (stands-first x xs t (stands-among xs s t w)))
+    (λ (v : stands-before xs r s ≡ true). stands-later x xs r t (stands-through xs r s t (d .1) v w))
+    (stands-cases x xs r s h))
+    (stands-cases x xs s t k)
+
+module _ (edge : ℕ → ℕ → Bool) where
+  -- of a set with somebody in the list, one stands first in it
+  abbrev FirstOf : (ℕ → Bool) → List ℕ → Type 0
+  FirstOf left xs = (t : ℕ) × (left t ≡ true) × ((s : ℕ) → stands-before xs s t ≡ true → left s ≡ false)
+
+  first-of : (left : ℕ → Bool) (xs : List ℕ) (u : ℕ) → NoneTwice xs → among xs u ≡ true → left u ≡ true → FirstOf left xs
+  first-of left [] u d a l = absurd (clash (among [] u) a (among-nil u))
+  first-of left (x ∷ xs) u d a l = go (left x) refl (λ q. first-of left xs u (d .1) (sym (among-other x xs u q) ∙ a) l)
+    where
+      go : (b : Bool) → left x ≡ b → ((x ≡ u → ⊥) → FirstOf left xs) → FirstOf left (x ∷ xs)
+      go true e w = (x, e, λ s h. absurd (clash (among xs x) (after-first x xs s x h) (d .0)))
+      go false e w =
+          let f = w (λ (q : x ≡ u). differ left u x l e (sym q)) in
+          (f .0, f .1, λ s h. ⊎-elim (λ (v : (x ≡ s) × (among xs (f .0) ≡ true)). ap left (sym (v .0)) ∙ e) (λ (v : stands-before xs s (f .0) ≡ true). f .2 s v) (stands-cases x xs s (f .0) h))
+
+  -- "from a rest in which every member has a predecessor in the rest no line exists": none of the rest, and none of a set that has it
+  pub no-line : (set left : ℕ → Bool) → Stuck edge left → ((t : ℕ) → left t ≡ true → set t ≡ true) → (xs : List ℕ) → Line edge set xs → ⊥
+  no-line set left stuck sub xs l =
+      let u = stuck .someone in
+      let f = first-of left xs (u .0) (l .none-twice) (l .all-and-only (u .0) ∙ sub (u .0) (u .1)) (u .1) in
+      let t = f .0 in
+      let s = stuck .waits t (f .1) .0 in
+      let h = stuck .waits t (f .1) .1 in
+      let there = predecessor-left edge left t s h in
+      clash (left s) there
+      (f .2 s (l .keeps-edges s t (is-within edge set s t (sub s there) (sub t (f .1)) (predecessor-other edge left t s h) (predecessor-edge edge left t s h))))
+
+  -- a line has no cycle: along a path of edges, each stands before the next
+  path-stands : (set : ℕ → Bool) (xs : List ℕ) → Line edge set xs → (i j : ℕ) → Precedes (edge-within edge set) i j → stands-before xs i j ≡ true
+  path-stands set xs l i j (by-edge e) = l .keeps-edges i j e
+  path-stands set xs l i j (edge-then {j = m} e p) = stands-through xs i m j (l .none-twice) (l .keeps-edges i m e) (path-stands set xs l m j p)
+
+  pub line-acyclic : (set : ℕ → Bool) (xs : List ℕ) → Line edge set xs → Acyclic (edge-within edge set)
+  line-acyclic set xs l i p = stands-not-itself xs i (l .none-twice) (path-stands set xs l i i p)
+
+  module _ (n : ℕ) where
+    -- a line made place by place: each is ready when it is placed, and in the end nobody is left
+    abbrev pub Steps : (ℕ → Bool) → List ℕ → Type 0
+    Steps left [] = (t : ℕ) → left t ≡ false
+    Steps left (t ∷ ts) = (ready n edge left t ≡ true) × Steps (without left t) ts
+
+    low-without : (left : ℕ → Bool) (t : ℕ) → Below n left → Below n (without left t)
+    low-without left t low s h = low s (still-left left t s h)
+
+    -- what is made place by place is a line that keeps every edge
+    placed-first : (left : ℕ → Bool) (x : ℕ) (xs : List ℕ) → Below n left → ready n edge left x ≡ true → Line edge (without left x) xs → Line edge left (x ∷ xs)
+    placed-first left x xs low r l = record { none-twice = (l .all-and-only x ∙ without-itself left x, l .none-twice); all-and-only = λ t. members t (ℕ-discrete x t); keeps-edges = λ s t h. keeps s t h (ℕ-discrete x s) (ℕ-discrete x t) }
+      where
+        members : (t : ℕ) → Dec (x ≡ t) → among (x ∷ xs) t ≡ left t
+        members t (yes q) = rw (← q) (among-first x xs ∙ sym (ready-left edge n left x r))
+        members t (no q) = among-other x xs t q ∙ l .all-and-only t ∙ without-other left x t q
+
+        keeps : (s t : ℕ) → edge-within edge left s t ≡ true → Dec (x ≡ s) → Dec (x ≡ t) → stands-before (x ∷ xs) s t ≡ true
+        keeps s t h (yes q) d = subst (λ (y : ℕ). stands-before (x ∷ xs) y t ≡ true) q (stands-first x xs t (l .all-and-only t ∙ without-other left x t (λ (e : x ≡ t). within-other edge left s t h (sym q ∙ e)) ∙ within-to edge left s t h))
+        keeps s t h (no q) (yes e) =
+            absurd
+            (clash (predecessor edge left x s)
+            (is-predecessor edge left x s (within-from edge left s t h) (λ (z : s ≡ x). q (sym z)) (ap (edge s) e ∙ within-edge edge left s t h))
+            (ready-free edge n left x r s (low s (within-from edge left s t h))))
+        keeps s t h (no q) (no e) =
+            stands-later x xs s t
+            (l .keeps-edges s t
+            (is-within edge (without left x) s t (without-other left x s q ∙ within-from edge left s t h) (without-other left x t e ∙ within-to edge left s t h)
+            (within-other edge left s t h) (within-edge edge left s t h)))
+
+    pub steps-line : (left : ℕ → Bool) (xs : List ℕ) → Below n left → Steps left xs → Line edge left xs
+    steps-line left [] low none-left =
+        record {
+          none-twice = tt;
+          all-and-only = λ t. among-nil t ∙ sym (none-left t);
+          keeps-edges = λ s t h. absurd (clash (left s) (within-from edge left s t h) (none-left s));
+        }
+    steps-line left (x ∷ xs) low w = placed-first left x xs low (w .0) (steps-line (without left x) xs (low-without left x low) (w .1))
+
+    -- and every line that keeps every edge is made so
+    first-ready : (left : ℕ → Bool) (x : ℕ) (xs : List ℕ) → Line edge left (x ∷ xs) → ready n edge left x ≡ true
+    first-ready left x xs l = is-ready edge n left x there (λ s m. free s (predecessor edge left x s) refl)
+      where
+        there : left x ≡ true
+        there = sym (l .all-and-only x) ∙ among-first x xs
+
+        free : (s : ℕ) (b : Bool) → predecessor edge left x s ≡ b → b ≡ false
+        free s true h =
+            absurd
+            (clash (among xs x)
+            (after-first x xs s x
+            (l .keeps-edges s x (is-within edge left s x (predecessor-left edge left x s h) there (predecessor-other edge left x s h) (predecessor-edge edge left x s h))))
+            (l .none-twice .0))
+        free s false h = refl
+
+    later-line : (left : ℕ → Bool) (x : ℕ) (xs : List ℕ) → Line edge left (x ∷ xs) → Line edge (without left x) xs
+    later-line left x xs l = record { none-twice = l .none-twice .1; all-and-only = λ t. members t (ℕ-discrete x t); keeps-edges = keeps }
+      where
+        members : (t : ℕ) → Dec (x ≡ t) → among xs t ≡ without left x t
+        members t (yes q) = rw (← q) (l .none-twice .0 ∙ sym (without-itself left x))
+        members t (no q) = sym (among-other x xs t q) ∙ l .all-and-only t ∙ sym (without-other left x t q)
+
+        keeps : (s t : ℕ) → edge-within edge (without left x) s t ≡ true → stands-before xs s t ≡ true
+        keeps s t h =
+            ⊎-elim (λ (w : (x ≡ s) × (among xs t ≡ true)). absurd (not-placed left x s (within-from edge (without left x) s t h) (w .0)))
+            (λ (w : stands-before xs s t ≡ true). w)
+            (stands-cases x xs s t (l .keeps-edges s t (within-more edge (without left x) left (still-left left x) s t h)))
+
+    pub line-steps : (left : ℕ → Bool) (xs : List ℕ) → Line edge left xs → Steps left xs
+    line-steps left [] l = λ t. sym (l .all-and-only t) ∙ among-nil t
+    line-steps left (x ∷ xs) l = (first-ready left x xs l, line-steps (without left x) xs (later-line left x xs l))
+
+    -- what the rule places, and whom it leaves
+    pub placed-none : (m : ℕ) (left : ℕ → Bool) → next n edge left ≡ none → placed n edge m left ≡ []
+    unfolding placed Option·elim
+    placed-none zero left e = refl
+    placed-none (suc m) left e = rw e refl
+
+    pub placed-some : (m : ℕ) (left : ℕ → Bool) (t : ℕ) → next n edge left ≡ some t → placed n edge (suc m) left ≡ t ∷ placed n edge m (without left t)
+    unfolding placed Option·elim
+    placed-some m left t e = rw e refl
+
+    pub rest-none : (m : ℕ) (left : ℕ → Bool) → next n edge left ≡ none → rest n edge m left ≡ left
+    unfolding rest Option·elim
+    rest-none zero left e = refl
+    rest-none (suc m) left e = rw e refl
+
+    pub rest-some : (m : ℕ) (left : ℕ → Bool) (t : ℕ) → next n edge left ≡ some t → rest n edge (suc m) left ≡ rest n edge m (without left t)
+    unfolding rest Option·elim
+    rest-some m left t e = rw e refl
+
+    pub rest-zero : (left : ℕ → Bool) → rest n edge zero left ≡ left
+    unfolding rest
+    rest-zero left = refl
+
+    pub placed-zero : (left : ℕ → Bool) → placed n edge zero left ≡ []
+    unfolding placed
+    placed-zero left = refl
+
+    -- whoever is left at the end was in the set
+    pub rest-within : (m : ℕ) (left : ℕ → Bool) (t : ℕ) → rest n edge m left t ≡ true → left t ≡ true
+    rest-within zero left t h = sym (ap (λ (f : ℕ → Bool). f t) (rest-zero left)) ∙ h
+    rest-within (suc m) left t h = go (next n edge left) refl (λ u. rest-within m (without left u) t)
+      where
+        go : (o : Option ℕ) → next n edge left ≡ o → ((u : ℕ) → rest n edge m (without left u) t ≡ true → without left u t ≡ true) → left t ≡ true
+        go none e ih = sym (ap (λ (f : ℕ → Bool). f t) (rest-none (suc m) left e)) ∙ h
+        go (some u) e ih = still-left left u t (ih u (sym (ap (λ (f : ℕ → Bool). f t) (rest-some m left u e)) ∙ h))
+
+    -- at the end none can be placed: every place takes one, so as many places as there are members are enough
+    nobody : (left : ℕ → Bool) → count-below n left ≤ 0 → next n edge left ≡ none
+    nobody left c = none-next edge n left (λ t l. not-ready-out edge n left t (out t l (left t) refl))
+      where
+        out : (t : ℕ) → t < n → (b : Bool) → left t ≡ b → b ≡ false
+        out t l true h = absurd (omega (arith, c, count-some left n t l h))
+        out t l false h = refl
+
+    pub rest-ends : (m : ℕ) (left : ℕ → Bool) → count-below n left ≤ m → next n edge (rest n edge m left) ≡ none
+    rest-ends zero left c = ap (next n edge) (rest-zero left) ∙ nobody left c
+    rest-ends (suc m) left c = go (next n edge left) refl (next-view edge n left) (λ u d. rest-ends m (without left u) d)
+      where
+        go : (o : Option ℕ) → next n edge left ≡ o → First (ready n edge left) n o
+            → ((u : ℕ) → count-below n (without left u) ≤ m → next n edge (rest n edge m (without left u)) ≡ none) → next n edge (rest n edge (suc m) left) ≡ none
+        go none e v ih = ap (next n edge) (rest-none (suc m) left e) ∙ e
+        go (some u) e (first-some l r f) ih =
+            ap (next n edge) (rest-some m left u e) ∙ ih u (omega (arith, c, one-fewer left u n l (ready-left edge n left u r)))
+
+    -- where nobody is left, what the rule placed was made place by place,
+    pub placed-steps : (m : ℕ) (left : ℕ → Bool) → ((t : ℕ) → rest n edge m left t ≡ false) → Steps left (placed n edge m left)
+    placed-steps zero left f = rw (placed-zero left) (λ t. sym (ap (λ (g : ℕ → Bool). g t) (rest-zero left)) ∙ f t)
+    placed-steps (suc m) left f = go (next n edge left) refl (next-view edge n left) (λ u. placed-steps m (without left u))
+      where
+        go : (o : Option ℕ) → next n edge left ≡ o → First (ready n edge left) n o
+            → ((u : ℕ) → ((t : ℕ) → rest n edge m (without left u) t ≡ false) → Steps (without left u) (placed n edge m (without left u))) → Steps left (placed n edge (suc m) left)
+        go none e v ih = rw (placed-none (suc m) left e) (λ t. sym (ap (λ (g : ℕ → Bool). g t) (rest-none (suc m) left e)) ∙ f t)
+        go (some u) e (first-some l r g) ih =
+            rw (placed-some m left u e) (r, ih u (λ t. sym (ap (λ (g : ℕ → Bool). g t) (rest-some m left u e)) ∙ f t))
+
+    -- and is the smallest of all that are
+    pub placed-smallest : (m : ℕ) (left : ℕ → Bool) (ys : List ℕ) → Steps left ys → AtMost (placed n edge m left) ys
+    placed-smallest zero left ys w = rw (placed-zero left) ended
+    placed-smallest (suc m) left ys w = go (next n edge left) refl (next-view edge n left) ys w (λ u zs. placed-smallest m (without left u) zs)
+      where
+        go : (o : Option ℕ) → next n edge left ≡ o → First (ready n edge left) n o → (ys : List ℕ) → Steps left ys
+            → ((u : ℕ) (zs : List ℕ) → Steps (without left u) zs → AtMost (placed n edge m (without left u)) zs) → AtMost (placed n edge (suc m) left) ys
+        go none e v ys w ih = rw (placed-none (suc m) left e) ended
+        go (some u) e (first-some l r g) [] w ih = absurd (clash (left u) (ready-left edge n left u r) (w u))
+        go (some u) e (first-some l r g) (y ∷ ys) w ih = rw (placed-some m left u e) (lower (ℕ-discrete u y) (decLt y u))
+          where
+            lower : Dec (u ≡ y) → Dec (y < u) → AtMost (u ∷ placed n edge m (without left u)) (y ∷ ys)
+            lower (yes q) d = rw (← q) (same-first (ih u ys (rw q (w .1))))
+            lower (no q) (yes d) = absurd (clash (ready n edge left y) (w .0) (g y d))
+            lower (no q) (no d) = smaller {x = u} {y = y} (omega (arith, q, d))

@@ -1,0 +1,202 @@
+-- The cycle. The walk from a stuck rest never lacks a predecessor, and no one is met twice on the path; so the path would outgrow the rest
+-- if nobody came again. What stands before the first coming is left behind; the rest of the path, turned, is still a ring. Assumes nothing.
+use Prim.Native.Nat.{ℕ, zero, suc, _+_, _<_, _≤_, min}
+use native.Mathlib.Omega.{arith}
+use native.Mathlib.Decide.{decLt}
+use mathlib.Core.Path.{_≡_, refl, sym, _∙_, ap, subst}
+use mathlib.Core.Bool.{Bool, true, false, _||_}
+use mathlib.Core.Logic.{_⊎_, inl, inr, ⊎-elim}
+use mathlib.Core.List.{List, [], _∷_, _++_, append-nil, append-assoc}
+use mathlib.Core.Option.{Option, none, some, Option·elim}
+use lib.ListN.{length, take, drop, getD, length-append, take-append-drop, length-take, length-drop}
+use lib.Seq.{drop-cons, split-at}
+use Rattle.sets.specs.Search.{first-below, count-below}
+use Rattle.sets.specs.Paths.{Precedes, by-edge, edge-then, Acyclic}
+use Rattle.sets.proofs.Truth.{clash, or-swap, or-hit-left}
+use Rattle.sets.proofs.Searches.{None, First, first-none, first-some, first-view}
+use Rattle.sort.specs.Rule.{among, place-of, lowest, turned, to-lowest, predecessor, lowest-predecessor, walk}
+use Rattle.sort.specs.Lines.{NoneTwice, edge-within, Below, Linked, Cycle, FromLowest, Stuck}
+use Rattle.sort.proofs.Lists.{among-nil, among-first, among-later, among-cases, among-append, twice-split, twice-join, twice-swap, UpTo, up-to, place-low, place-entry, among-entry, pigeonhole}
+use Rattle.sort.proofs.Chosen.{predecessor-left, predecessor-other, predecessor-edge, is-within}
+
+module _ (r : ℕ → ℕ → Bool) where
+  -- linked lists, cut and joined where a number stands in both
+  pub linked-cut : (xs : List ℕ) (y : ℕ) (ys : List ℕ) → Linked r (xs ++ y ∷ ys) → Linked r (xs ++ y ∷ []) × Linked r (y ∷ ys)
+  linked-cut [] y ys h = (tt, h)
+  linked-cut (x ∷ []) y ys h = ((h .0, tt), h .1)
+  linked-cut (x ∷ z ∷ zs) y ys h = let w = linked-cut (z ∷ zs) y ys (h .1) in ((h .0, w .0), w .1)
+
+  pub linked-join : (xs : List ℕ) (y : ℕ) (ys : List ℕ) → Linked r (xs ++ y ∷ []) → Linked r (y ∷ ys) → Linked r (xs ++ y ∷ ys)
+  linked-join [] y ys h k = k
+  linked-join (x ∷ []) y ys h k = (h .0, k)
+  linked-join (x ∷ z ∷ zs) y ys h k = (h .0, linked-join (z ∷ zs) y ys (h .1) k)
+
+  -- a path from the first to the last
+  linked-path : (x : ℕ) (xs : List ℕ) (z : ℕ) → Linked r (x ∷ xs ++ z ∷ []) → Precedes r x z
+  linked-path x [] z h = by-edge (h .0)
+  linked-path x (y ∷ ys) z h = edge-then (h .0) (linked-path y ys z (h .1))
+
+  -- a ring may be turned
+  ring-turns : (xs : List ℕ) (y : ℕ) (ys : List ℕ) → Linked r ((xs ++ y ∷ ys) ++ take 1 (xs ++ y ∷ ys)) → Linked r (((y ∷ ys) ++ xs) ++ y ∷ [])
+  ring-turns [] y ys h = subst (λ (zs : List ℕ). Linked r (zs ++ y ∷ [])) (sym (append-nil (y ∷ ys))) h
+  ring-turns (x ∷ xs) y ys h =
+      let w = linked-cut (x ∷ xs) y (ys ++ x ∷ []) (subst (Linked r) (append-assoc (x ∷ xs) (y ∷ ys) (x ∷ [])) h) in
+      subst (Linked r) (sym (append-assoc (y ∷ ys) (x ∷ xs) (y ∷ []))) (linked-join (y ∷ ys) x (xs ++ y ∷ []) (w .1) (w .0))
+
+-- a cycle goes on for ever: whoever is in it precedes itself
+pub cycle-precedes : (edge : ℕ → ℕ → Bool) (set : ℕ → Bool) (x : ℕ) (xs : List ℕ) → Cycle edge set (x ∷ xs) → Precedes (edge-within edge set) x x
+cycle-precedes edge set x xs c = linked-path (edge-within edge set) x xs x (c .round)
+
+-- the links of a larger relation
+pub linked-more : (r q : ℕ → ℕ → Bool) → ((s t : ℕ) → r s t ≡ true → q s t ≡ true) → (xs : List ℕ) → Linked r xs → Linked q xs
+linked-more r q m [] h = tt
+linked-more r q m (x ∷ []) h = tt
+linked-more r q m (x ∷ y ∷ ys) h = (m x y (h .0), linked-more r q m (y ∷ ys) (h .1))
+
+-- the lowest number of a list is in it, and nothing in it is below
+pub lowest-among : (x : ℕ) (xs : List ℕ) → among (x ∷ xs) (lowest (x ∷ xs)) ≡ true
+unfolding lowest
+lowest-among x [] = among-first x []
+lowest-among x (y ∷ ys) = go (decLt (lowest (y ∷ ys)) x) (lowest-among y ys)
+  where
+    go : Dec (lowest (y ∷ ys) < x) → among (y ∷ ys) (lowest (y ∷ ys)) ≡ true → among (x ∷ y ∷ ys) (min x (lowest (y ∷ ys))) ≡ true
+    go (yes l) a = subst (λ (z : ℕ). among (x ∷ y ∷ ys) z ≡ true) (omega (arith, l)) (among-later x (y ∷ ys) (lowest (y ∷ ys)) a)
+    go (no l) a = subst (λ (z : ℕ). among (x ∷ y ∷ ys) z ≡ true) (omega (arith, l)) (among-first x (y ∷ ys))
+
+pub lowest-low : (xs : List ℕ) (t : ℕ) → among xs t ≡ true → lowest xs ≤ t
+unfolding lowest
+lowest-low [] t a = absurd (clash (among [] t) a (among-nil t))
+lowest-low (x ∷ []) t a =
+    ⊎-elim (λ (e : x ≡ t). omega (arith, e)) (λ (e : among [] t ≡ true). absurd (clash (among [] t) e (among-nil t))) (among-cases x [] t a)
+lowest-low (x ∷ y ∷ ys) t a =
+    ⊎-elim (λ (e : x ≡ t). omega (arith, e)) (λ (e : among (y ∷ ys) t ≡ true). omega (arith, lowest-low (y ∷ ys) t e)) (among-cases x (y ∷ ys) t a)
+
+-- two lists in the other order
+among-swap : (xs ys : List ℕ) (t : ℕ) → among (ys ++ xs) t ≡ true → among (xs ++ ys) t ≡ true
+among-swap xs ys t a = among-append xs ys t ∙ or-swap (among xs t) (among ys t) ∙ sym (among-append ys xs t) ∙ a
+
+-- a list turned to its lowest number starts with it, and has the same members
+module _ (xs : List ℕ) where
+  turned-among : (k t : ℕ) → among (turned k xs) t ≡ true → among xs t ≡ true
+  unfolding turned
+  turned-among k t a =
+      sym (ap (λ (zs : List ℕ). among zs t) (take-append-drop k xs)) ∙ among-swap (take k xs) (drop k xs) t a
+
+  turned-starts : (k : ℕ) → k < length xs → turned k xs ≡ getD xs k 0 ∷ (drop (suc k) xs ++ take k xs)
+  unfolding turned
+  turned-starts k l = ap (λ (zs : List ℕ). zs ++ take k xs) (drop-cons xs k 0 l)
+
+  module _ (some-one : 1 ≤ length xs) where
+    pub lowest-in : among xs (lowest xs) ≡ true
+    lowest-in = go xs some-one
+      where
+        go : (ys : List ℕ) → 1 ≤ length ys → among ys (lowest ys) ≡ true
+        go [] l = absurd (omega (arith, l))
+        go (y ∷ ys) l = lowest-among y ys
+
+    lowest-place : place-of (lowest xs) xs < length xs
+    lowest-place = place-low (lowest xs) xs lowest-in
+
+    pub from-lowest : FromLowest (to-lowest xs)
+    unfolding to-lowest
+    from-lowest = go (place-of (lowest xs) xs) lowest-place (place-entry (lowest xs) xs lowest-in)
+      where
+        go : (k : ℕ) → k < length xs → getD xs k 0 ≡ lowest xs → FromLowest (turned k xs)
+        go k l e =
+            subst FromLowest (sym (turned-starts k l))
+            (λ t a. rw e (lowest-low xs t (turned-among k t (ap (λ (zs : List ℕ). among zs t) (turned-starts k l) ∙ among-later (getD xs k 0) (drop (suc k) xs ++ take k xs) t a))))
+
+-- a step of the walk
+module _ (back : ℕ → Option ℕ) where
+  pub walk-ends : (m t s : ℕ) (path : List ℕ) → back t ≡ some s → among path s ≡ true → walk back (suc m) t path ≡ take (suc (place-of s path)) path
+  unfolding walk Option·elim
+  walk-ends m t s path e a = rw (e, a) refl
+
+  pub walk-goes : (m t s : ℕ) (path : List ℕ) → back t ≡ some s → among path s ≡ false → walk back (suc m) t path ≡ walk back m s (s ∷ path)
+  unfolding walk Option·elim
+  walk-goes m t s path e a = rw (e, a) refl
+
+module _ (edge : ℕ → ℕ → Bool) where
+  -- a cycle may be turned
+  turn-cycle : (set : ℕ → Bool) (xs : List ℕ) (y : ℕ) (ys : List ℕ) → Cycle edge set (xs ++ y ∷ ys) → Cycle edge set ((y ∷ ys) ++ xs)
+  turn-cycle set xs y ys c =
+      record {
+        at-least-two = rw (length-append (y ∷ ys) xs) (omega (arith, rw (length-append xs (y ∷ ys)) at (c .at-least-two)));
+        none-twice = twice-swap xs (y ∷ ys) (c .none-twice);
+        members = λ t a. c .members t (among-swap xs (y ∷ ys) t a);
+        round = ring-turns (edge-within edge set) xs y ys (c .round);
+      }
+
+  module _ (set : ℕ → Bool) (xs : List ℕ) (k : ℕ) (l : k < length xs) (c : Cycle edge set xs) where
+    turned-cycle : Cycle edge set (turned k xs)
+    unfolding turned
+    turned-cycle = subst (λ (zs : List ℕ). Cycle edge set (zs ++ take k xs)) (sym (drop-cons xs k 0 l)) (turn-cycle set (take k xs) (getD xs k 0) (drop (suc k) xs) (subst (Cycle edge set) (split-at xs k 0 l) c))
+
+  pub to-lowest-cycle : (set : ℕ → Bool) (xs : List ℕ) → Cycle edge set xs → Cycle edge set (to-lowest xs)
+  unfolding to-lowest
+  to-lowest-cycle set xs c = turned-cycle set xs (place-of (lowest xs) xs) (lowest-place xs (omega (arith, c .at-least-two))) c
+
+  -- who is on the path: nobody twice, all of them left, each with an edge to the next
+  abbrev pub Path : (ℕ → Bool) → List ℕ → Type 0
+  Path left path = NoneTwice path × ((t : ℕ) → among path t ≡ true → left t ≡ true) × Linked (edge-within edge left) path
+
+  module _ (left : ℕ → Bool) (t : ℕ) (tail : List ℕ) (p : Path left (t ∷ tail)) (s : ℕ) (before : predecessor edge left t s ≡ true) where
+    link : edge-within edge left s t ≡ true
+    link =
+        is-within edge left s t (predecessor-left edge left t s before) (p .1 t (among-first t tail)) (predecessor-other edge left t s before)
+        (predecessor-edge edge left t s before)
+
+    -- one more on the path
+    pub path-grows : among (t ∷ tail) s ≡ false → Path left (s ∷ t ∷ tail)
+    path-grows f = (
+      (f, p .0),
+      λ u a. ⊎-elim (λ (e : s ≡ u). ap left (sym e) ∙ predecessor-left edge left t s before) (λ (e : among (t ∷ tail) u ≡ true). p .1 u e) (among-cases s (t ∷ tail) u a),
+      (link, p .2),
+    )
+
+    -- s comes again
+    pub path-closes : among (t ∷ tail) s ≡ true → Cycle edge left (take (suc (place-of s (t ∷ tail))) (t ∷ tail))
+    path-closes a = let u = up-to s (t ∷ tail) a in subst (Cycle edge left) (sym (u .part)) (go (u .before) (u .after) (u .whole))
+      where
+        go : (front after : List ℕ) → t ∷ tail ≡ front ++ s ∷ after → Cycle edge left (front ++ s ∷ [])
+        go [] after e = absurd (predecessor-other edge left t s before (sym (ap (λ (xs : List ℕ). getD xs 0 0) e)))
+        go (b ∷ bs) after e =
+            let front = b ∷ bs in
+            let whole = e ∙ sym (append-assoc front (s ∷ []) after) in
+            let first = ap (λ (xs : List ℕ). getD xs 0 0) e in
+            record {
+              at-least-two = rw (length-append front (s ∷ [])) (omega arith);
+              none-twice = twice-split (front ++ s ∷ []) after (subst NoneTwice whole (p .0)) .0;
+              members = λ u m. p .1 u (ap (λ (xs : List ℕ). among xs u) whole ∙ among-append (front ++ s ∷ []) after u ∙ or-hit-left (among (front ++ s ∷ []) u) (among after u) m);
+              round =
+                  subst (Linked (edge-within edge left)) (sym (append-assoc front (s ∷ []) (b ∷ [])))
+                  (linked-join (edge-within edge left) front s (b ∷ [])
+                  (linked-cut (edge-within edge left) front s after (subst (Linked (edge-within edge left)) e (p .2)) .0)
+                  (ap (edge-within edge left s) (sym first) ∙ link, tt));
+            }
+
+  module _ (n : ℕ) (left : ℕ → Bool) where
+    -- in a stuck rest the walk always finds a lowest predecessor
+    pub lowest-found : Below n left → Stuck edge left → (t : ℕ) → left t ≡ true
+        → (s : ℕ) × (lowest-predecessor n edge left t ≡ some s) × (predecessor edge left t s ≡ true)
+    unfolding lowest-predecessor
+    lowest-found low stuck t l = go (first-below n (predecessor edge left t)) refl (first-view (predecessor edge left t) n)
+      where
+        go : (o : Option ℕ) → first-below n (predecessor edge left t) ≡ o → First (predecessor edge left t) n o
+            → (s : ℕ) × (first-below n (predecessor edge left t) ≡ some s) × (predecessor edge left t s ≡ true)
+        go none e (first-none f) =
+            let w = stuck .waits t l in
+            absurd (clash (predecessor edge left t (w .0)) (w .1) (f (w .0) (low (w .0) (predecessor-left edge left t (w .0) (w .1)))))
+        go (some s) e (first-some m q f) = (s, e, q)
+
+    -- "the walk comes round within as many steps as there are members"
+    pub walk-cycle : Below n left → Stuck edge left → (m t : ℕ) (tail : List ℕ) → Path left (t ∷ tail)
+        → count-below n left < m + length (t ∷ tail) → Cycle edge left (walk (lowest-predecessor n edge left) m t (t ∷ tail))
+    walk-cycle low stuck zero t tail p c = absurd (omega (arith, c, pigeonhole n left (t ∷ tail) (p .0) (λ u a. (low u (p .1 u a), p .1 u a))))
+    walk-cycle low stuck (suc m) t tail p c = let f = lowest-found low stuck t (p .1 t (among-first t tail)) in go (f .0) (f .1) (f .2) (among (t ∷ tail) (f .0)) refl (λ s q d. walk-cycle low stuck m s (t ∷ tail) q d)
+      where
+        go : (s : ℕ) → lowest-predecessor n edge left t ≡ some s → predecessor edge left t s ≡ true → (b : Bool) → among (t ∷ tail) s ≡ b
+            → ((s : ℕ) → Path left (s ∷ t ∷ tail) → count-below n left < m + length (s ∷ t ∷ tail) → Cycle edge left (walk (lowest-predecessor n edge left) m s (s ∷ t ∷ tail)))
+            → Cycle edge left (walk (lowest-predecessor n edge left) (suc m) t (t ∷ tail))
+        go s e q true a ih = subst (Cycle edge left) (sym (walk-ends (lowest-predecessor n edge left) m t s (t ∷ tail) e a)) (path-closes left t tail p s q a)
+        go s e q false a ih = subst (Cycle edge left) (sym (walk-goes (lowest-predecessor n edge left) m t s (t ∷ tail) e a)) (ih s (path-grows left t tail p s q a) (omega (arith, c)))

@@ -1,0 +1,71 @@
+-- While the line is made, what is still to be placed and written is what the rule places from those left. Assumes nothing.
+use Prim.Native.Nat.{ℕ, zero, suc, _+_, _-_, _<_, _≤_}
+use native.Mathlib.Omega.{arith}
+use native.Mathlib.Numerals.{add-one}
+use mathlib.Core.Path.{_≡_, refl, sym, _∙_, ap, subst, fun-ext}
+use mathlib.Core.Bool.{Bool, true, _&&_, not}
+use mathlib.Core.List.{List, [], _∷_}
+use mathlib.Core.Option.{none, some}
+use lib.Dec.{eqb}
+use lib.ListN.{length, set}
+use lib.Seq.{sets}
+use Rattle.sets.specs.Bits.{numbers, has}
+use Rattle.sets.specs.Search.{count-below}
+use Rattle.sets.proofs.Counts.{count-low, count-some}
+use Rattle.sort.specs.Rule.{without, next, placed, rest}
+use Rattle.sort.proofs.Chosen.{without-said, one-fewer, next-is}
+use Rattle.sort.proofs.Placing.{placed-none, placed-some, rest-none, rest-some}
+
+-- a set with one taken out, as the rule has it
+pub taken : (left fewer t : ℕ) → ((s : ℕ) → has fewer s ≡ (has left s && not (eqb t s))) → has fewer ≡ without (has left) t
+taken left fewer t h = fun-ext (λ s. h s ∙ without-said (has left) t s)
+
+module _ (edge : ℕ → ℕ → Bool) (all : ℕ → Bool) (blank : List ℕ) where
+  -- `count` of the set have been placed in the line, and `more` places can follow
+  pub record ToPlace (line : List ℕ) (left : ℕ → Bool) (count more : ℕ) : Type 0 where
+    pub enough : count-below numbers left ≤ more
+    pub same-rest : rest numbers edge more left ≡ rest numbers edge numbers all
+    pub same-line : sets line count (placed numbers edge more left) ≡ sets blank 0 (placed numbers edge numbers all)
+    pub same-count : count + length (placed numbers edge more left) ≡ length (placed numbers edge numbers all)
+
+  pub place-start : ToPlace blank all 0 numbers
+  place-start = record { enough = count-low all numbers; same-rest = refl; same-line = refl; same-count = omega arith }
+
+  module _ (line : List ℕ) (left : ℕ → Bool) (count : ℕ) where
+    -- whoever is ready has room
+    pub place-room : (more t : ℕ) → ToPlace line left count more → next numbers edge left ≡ some t → 1 ≤ more
+    place-room more t w e = let r = next-is edge numbers left t e in omega (arith, w .enough, count-some left numbers t (r .0) (r .1))
+
+    pub place-one : (more t : ℕ) (fewer : ℕ → Bool) → ToPlace line left count (suc more) → next numbers edge left ≡ some t → fewer ≡ without left t
+        → ToPlace (set line count t) fewer (count + 1) more
+    place-one more t fewer w e q = subst (λ (f : ℕ → Bool). ToPlace (set line count t) f (count + 1) more) (sym q) placed-one
+      where
+        on : placed numbers edge (suc more) left ≡ t ∷ placed numbers edge more (without left t)
+        on = placed-some edge numbers more left t e
+
+        placed-one : ToPlace (set line count t) (without left t) (count + 1) more
+        placed-one =
+            let r = next-is edge numbers left t e in
+            record {
+              enough = omega (arith, w .enough, one-fewer left t numbers (r .0) (r .1));
+              same-rest = sym (rest-some edge numbers more left t e) ∙ w .same-rest;
+              same-line =
+                  ap (λ (k : ℕ). sets (set line count t) k (placed numbers edge more (without left t))) (add-one count)
+                  ∙ sym (ap (sets line count) on)
+                  ∙ w .same-line;
+              same-count = omega (arith, w .same-count, ap length on);
+            }
+
+    -- nobody is ready: all is done
+    module _ (more : ℕ) (w : ToPlace line left count more) (e : next numbers edge left ≡ none) where
+      nothing : placed numbers edge more left ≡ []
+      nothing = placed-none edge numbers more left e
+
+      pub done-count : count ≡ length (placed numbers edge numbers all)
+      done-count = omega (arith, w .same-count, ap length nothing)
+
+      pub done-line : line ≡ sets blank 0 (placed numbers edge numbers all)
+      done-line = sym (ap (sets line count) nothing) ∙ w .same-line
+
+      pub done-rest : left ≡ rest numbers edge numbers all
+      done-rest = sym (rest-none edge numbers more left e) ∙ w .same-rest

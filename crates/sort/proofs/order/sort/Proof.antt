@@ -1,0 +1,105 @@
+-- `sort::order::sort` meets its contract: the laws in Ends say what the rule gives where nobody is left, and where somebody is.
+-- Assumes nothing.
+use borrow.Author.Needs.{needs}
+use native.Mathlib.Omega.{arith}
+use mathlib.Core.Path.{_≡_, sym, _∙_, ap, subst}
+use mathlib.Core.Bool.{Bool}
+use mathlib.Core.List.{List}
+use Prim.Native.Nat.{ℕ, _<_, _≤_}
+use lib.ListN.{length, replicate, length-replicate}
+use lib.Seq.{sets, slice, length-sets}
+use denote.Ref.{now}
+use Rattle.sets.specs.Bits.{numbers, has, in-row}
+use Rattle.sets.proofs.Tables.{empty-entry}
+use Rattle.sets.proofs.From.{FirstFrom}
+use Rattle.sort.specs.Rule.{LineOrCycle, line, cycle, length-of, members-of, placed, rest}
+use Rattle.sort.proofs.Waits.{found-from, kept-start, passed-start}
+use Rattle.sort.proofs.Ends.{line-fits, line-front, ends-in-line, ends-in-cycle}
+use Rattle.sort.proofs.order.sort.Statement.{statement}
+use Rattle.sort.proofs.order.sort.Tie as tie
+
+place-all-requires : tie.Need-place-all-requires
+place-all-requires c κs =
+    let a = c .before .before .args in
+    let blank = replicate {A = ℕ} 64 0 in
+    (kept-start blank (empty-entry 64) (length-replicate {A = ℕ} 64 0), passed-start blank (empty-entry 64) (in-row (now (a .table))) (has (a .set)))
+
+member-from-requires : tie.Need-member-from-requires
+member-from-requires c κs = search needs
+
+-- when all have been placed who can be
+module _ (c : tie.After-member-from) where
+  abbrev edge : ℕ → ℕ → Bool
+  edge = in-row (now (c .before .before .before .before .args .table))
+
+  abbrev set : ℕ → Bool
+  set = has (c .before .before .before .before .args .set)
+
+  abbrev left : ℕ → Bool
+  left = has (c .before .place-all .result .left)
+
+  abbrev first : ℕ
+  first = c .member-from .result
+
+  first-left : FirstFrom left 0 numbers first
+  first-left = found-from left 0 first (c .member-from .ensures)
+
+  same-rest : (t : ℕ) → left t ≡ rest numbers edge numbers set t
+  same-rest = c .before .place-all .ensures .1 .1 .0
+
+  -- the buffer that the line was placed in
+  abbrev blank : List ℕ
+  blank = replicate {A = ℕ} 64 0
+
+  abbrev buffer : List ℕ
+  buffer = c .before .place-all .last .1 .1 .1 .0
+
+  is-placed : buffer ≡ sets blank 0 (placed numbers edge numbers set)
+  is-placed = c .before .place-all .ensures .1 .0
+
+  buffer-whole : length buffer ≡ numbers
+  buffer-whole = ap length is-placed ∙ length-sets blank 0 (placed numbers edge numbers set) ∙ length-replicate {A = ℕ} 64 0
+
+  counted : c .before .place-all .result .count ≡ length (placed numbers edge numbers set)
+  counted = c .before .place-all .ensures .0
+
+  fits : c .before .place-all .result .count ≤ numbers
+  fits = rw counted (line-fits edge set)
+
+write-part-requires : tie.Need-write-part-requires
+write-part-requires c κs = let m = c .before .before .before in (buffer-whole m, ((omega arith, fits m), omega (arith, fits m)))
+
+returns : tie.Need-returns
+returns c =
+    let t = c .before .before .before in
+    let m = t .before in
+    let to = now (m .before .before .before .before .args .members) in
+    let is-line = ends-in-line (edge m) (set m) (left m) (same-rest m) (subst (FirstFrom (left m) 0 numbers) (t .if1 .taken) (first-left m)) in (
+      ap line (counted m) ∙ sym (ap length-of is-line),
+      c .write-part .ensures
+          ∙ ap (λ (xs : List ℕ). sets to 0 (slice 0 (m .before .place-all .result .count) xs)) (is-placed m)
+          ∙ ap (λ (k : ℕ). sets to 0 (slice 0 k (sets (blank m) 0 (placed numbers (edge m) numbers (set m))))) (counted m)
+          ∙ ap (sets to 0) (line-front (edge m) (set m) (blank m) (length-replicate {A = ℕ} 64 0))
+          ∙ sym (ap (λ (o : LineOrCycle (List ℕ)). sets to 0 (members-of o)) is-line),
+    )
+
+-- where somebody is left
+low : (c : tie.Else1) → first (c .before) < numbers
+low c = omega (arith, first-left (c .before) .within, c .if1 .left)
+
+write-cycle-requires : tie.Need-write-cycle-requires
+write-cycle-requires c κs = let e = c .before .before in (e .before .before .place-all .ensures .1 .1 .1 .0, low e)
+
+returns-2 : tie.Need-returns-2
+returns-2 c =
+    let e = c .before .before .before in
+    let m = e .before in
+    let to = now (m .before .before .before .before .args .members) in
+    let is-cycle =
+    ends-in-cycle (edge m) (set m) (left m) (same-rest m) (m .before .place-all .last .1 .1 .0) (m .before .place-all .ensures .1 .1 .1 .1) (first m) (first-left m) (low e) in (
+      ap cycle (c .write-cycle .ensures .0) ∙ sym (ap length-of is-cycle),
+      c .write-cycle .ensures .1 ∙ sym (ap (λ (o : LineOrCycle (List ℕ)). sets to 0 (members-of o)) is-cycle),
+    )
+
+pub sort-spec : {M : Type 1} → statement M
+sort-spec = tie.close (tie.spec place-all-requires member-from-requires write-part-requires returns write-cycle-requires returns-2)

@@ -1,0 +1,202 @@
+-- `sort::search::lowest_ready` meets its contract. The invariants: whoever has been tried waits for the one kept; and of the one that is
+-- being tried, no predecessor below s is left. Assumes nothing.
+use borrow.Author.Needs.{needs}
+use native.Mathlib.Omega.{arith}
+use native.Mathlib.Decide.{decLt}
+use mathlib.Core.Path.{_≡_, sym, _∙_, subst}
+use mathlib.Core.Bool.{Bool, true}
+use mathlib.Core.List.{List}
+use mathlib.Core.Option.{Option·some-ne-none}
+use Prim.Native.Nat.{ℕ, _+_, _-_, _<_, _≤_}
+use lib.ListN.{getD}
+use denote.Ref.{now}
+use Rattle.sets.specs.Bits.{numbers, has, in-row}
+use Rattle.sets.proofs.Members.{has-low}
+use Rattle.sets.proofs.From.{FirstFrom}
+use Rattle.sort.specs.Kept.{Kept, Passed, Blocked}
+use Rattle.sort.proofs.Waits.{found-from, Free, Tried, free-on, free-past, lowest-found, tried-on, ready-found, none-found, kept-store, passed-store, tried-store}
+use Rattle.sort.proofs.search.lowest_ready.Statement.{statement}
+use Rattle.sort.proofs.search.lowest_ready.Tie as tie
+
+abbrev Trying : List ℕ → ℕ → List ℕ → ℕ → Type 0
+Trying table left waits k = Kept waits × Passed (in-row table) (has left) waits × Tried (in-row table) (has left) waits k
+
+abbrev Inv-loop : tie.InvT-loop
+Inv-loop table left waits₀ tried t s₀ waits s = (s ≤ numbers) × (s < numbers → has left s ≡ true) × Free (in-row table) (has left) t s × Trying table left waits t
+
+abbrev μ-loop : tie.MeasureT-loop
+μ-loop table left waits₀ tried t s₀ waits s = numbers - s
+
+abbrev Inv-search : tie.InvT-search
+Inv-search table left waits₀ tried₀ waits tried = Trying table left waits tried
+
+abbrev μ-search : tie.MeasureT-search
+μ-search table left waits₀ tried₀ waits tried = numbers - tried
+
+search-holds : tie.Need-search-holds Inv-loop μ-loop Inv-search μ-search
+search-holds c = (c .pre .0, c .pre .1, λ t l h. absurd (omega (arith, l)))
+
+member-from-requires : tie.Need-member-from-requires Inv-loop μ-loop Inv-search μ-search
+member-from-requires c κs = search needs
+
+-- the next one left
+module _ (c : tie.After-member-from Inv-loop μ-loop Inv-search μ-search) where
+  abbrev left : ℕ
+  left = c .before .before .args .left
+
+  abbrev edge : ℕ → ℕ → Bool
+  edge = in-row (now (c .before .before .args .table))
+
+  abbrev t : ℕ
+  t = c .member-from .result
+
+  found : FirstFrom (has left) (c .before .search .tried) numbers t
+  found = found-from (has left) (c .before .search .tried) t (c .member-from .ensures)
+
+  tried : Tried edge (has left) (c .before .search .waits) t
+  tried = tried-on edge (has left) (c .before .search .waits) (c .before .search .tried) t (c .before .search .inv .2) found
+
+-- it is one, and not the end
+low : (c : tie.Else1 Inv-loop μ-loop Inv-search μ-search) → t (c .before) < numbers
+low c = omega (arith, found (c .before) .within, c .if1 .left)
+
+add-tried : tie.Need-add-tried Inv-loop μ-loop Inv-search μ-search
+add-tried c = omega (arith, low c)
+
+element-copy-out-member-from : tie.Need-element-copy-out-member-from Inv-loop μ-loop Inv-search μ-search
+element-copy-out-member-from c = low c
+
+cast-member-from : tie.Need-cast-member-from Inv-loop μ-loop Inv-search μ-search
+cast-member-from c = omega (arith, c .before .before .before .search .inv .0 .low (t (c .before .before)))
+
+member-from-requires-2 : tie.Need-member-from-requires-2 Inv-loop μ-loop Inv-search μ-search
+member-from-requires-2 c κs = search needs
+
+loop-holds : tie.Need-loop-holds Inv-loop μ-loop Inv-search μ-search
+loop-holds c =
+    let n = c .before .before .before in
+    let w = n .before .search in
+    let v = found-from (has (left n)) (getD (w .waits) (t n) 0) (c .member-from2 .result) (c .member-from2 .ensures) in (
+      v .within,
+      (λ l. v .passes l .1),
+      free-on (edge n) (has (left n)) (t n) (getD (w .waits) (t n) 0) (c .member-from2 .result) (w .inv .1 (t n)) v,
+      (w .inv .0, w .inv .1, tried n),
+    )
+
+-- at a turn
+module _ (c : tie.In-loop Inv-loop μ-loop Inv-search μ-search) where
+  abbrev chosen : tie.Else1 Inv-loop μ-loop Inv-search μ-search
+  chosen = c .before .before .before .before
+
+  abbrev n : tie.After-member-from Inv-loop μ-loop Inv-search μ-search
+  n = chosen .before
+
+  abbrev s : ℕ
+  s = c .before .loop .s
+
+has-edge-requires : tie.Need-has-edge-requires Inv-loop μ-loop Inv-search μ-search
+has-edge-requires c κs = (c .loop-test .taken, low (chosen c))
+
+cast-waits : tie.Need-cast-waits Inv-loop μ-loop Inv-search μ-search
+cast-waits c = omega (arith, c .before .before .loop-test .taken)
+
+element-write-waits : tie.Need-element-write-waits Inv-loop μ-loop Inv-search μ-search
+element-write-waits c = low (chosen (c .before .before))
+
+search-less : tie.Need-search-less Inv-loop μ-loop Inv-search μ-search
+search-less c =
+    let o = chosen (c .before .before) in
+    omega (arith, low o, found (o .before) .passes (low o) .0)
+
+search-again : tie.Need-search-again Inv-loop μ-loop Inv-search μ-search
+search-again c =
+    let i = c .before .before in
+    let l = i .before .loop in
+    let o = chosen i in
+    let e = edge (n i) in
+    let set = has (left (n i)) in
+    let first =
+    lowest-found e set (t (n i)) (s i) (l .inv .2) (i .loop-test .taken) (l .inv .1 (i .loop-test .taken)) (sym (c .before .has-edge .ensures) ∙ c .if2 .taken) in (
+      kept-store e set (l .waits) (t (n i)) (s i) (l .inv .3 .0) (low o) (i .loop-test .taken),
+      passed-store e set (l .waits) (t (n i)) (s i) (l .inv .3 .0) (low o) (i .loop-test .taken) (l .inv .3 .1) (l .inv .2),
+      tried-store e set (l .waits) (t (n i)) (s i) (l .inv .3 .0) (low o) (i .loop-test .taken) (l .inv .3 .2) first,
+    )
+
+add-member-from : tie.Need-add-member-from Inv-loop μ-loop Inv-search μ-search
+add-member-from c = omega (arith, c .before .before .loop-test .taken)
+
+member-from-requires-3 : tie.Need-member-from-requires-3 Inv-loop μ-loop Inv-search μ-search
+member-from-requires-3 c κs = search needs
+
+-- the next predecessor that may be left
+onwards : (c : tie.After-member-from3 Inv-loop μ-loop Inv-search μ-search)
+    → FirstFrom (has (left (n (c .before .before .before)))) (s (c .before .before .before) + 1) numbers (c .member-from3 .result)
+onwards c = found-from (has (left (n (c .before .before .before)))) (s (c .before .before .before) + 1) (c .member-from3 .result) (c .member-from3 .ensures)
+
+loop-less : tie.Need-loop-less Inv-loop μ-loop Inv-search μ-search
+loop-less c = go (decLt (c .member-from3 .result) numbers)
+  where
+    go : Dec (c .member-from3 .result < numbers) → numbers - c .member-from3 .result < numbers - s (c .before .before .before)
+    go (yes l) = omega (arith, onwards c .passes l .0, c .before .before .before .loop-test .taken)
+    go (no l) = omega (arith, l, c .before .before .before .loop-test .taken)
+
+loop-again : tie.Need-loop-again Inv-loop μ-loop Inv-search μ-search
+loop-again c =
+    let i = c .before .before .before in
+    let l = i .before .loop in
+    let e = edge (n i) in
+    let set = has (left (n i)) in (
+      onwards c .within,
+      (λ m. onwards c .passes m .1),
+      free-on e set (t (n i)) (s i + 1) (c .member-from3 .result)
+          (free-past e set (t (n i)) (s i) (l .inv .2) (sym (c .before .before .has-edge .ensures) ∙ c .before .if2 .left)) (onwards c),
+      l .inv .3,
+    )
+
+returns : tie.Need-returns Inv-loop μ-loop Inv-search μ-search
+returns c =
+    let m = c .before in
+    let w = m .before .search in
+    let all = subst (Tried (edge m) (has (left m)) (w .waits)) (c .if1 .taken) (tried m) in (
+      sym (none-found (edge m) (has (left m)) (w .waits) all),
+      (w .inv .0, (w .inv .1, λ e u h. all u (has-low (left m) 64 u (m .before .before .fits .left .fits) h) h)),
+    )
+
+returns-2 : tie.Need-returns-2 Inv-loop μ-loop Inv-search μ-search
+returns-2 c =
+    let l = c .before .loop in
+    let o = c .before .before .before .before in
+    let m = o .before in
+    let set = has (left m) in
+    let is-next =
+    ready-found (edge m) set (l .waits) (t m) (l .inv .3 .2) (low o) (found m .passes (low o) .1) (λ u z. l .inv .2 u (omega (arith, z, c .loop-test .left))) in (
+      sym is-next,
+      (l .inv .3 .0, (l .inv .3 .1, λ e. absurd (Option·some-ne-none (t m) (sym is-next ∙ e)))),
+    )
+
+pub lowest-ready-spec : {M : Type 1} → statement M
+lowest-ready-spec =
+    tie.close
+    (tie.spec
+    Inv-loop
+    μ-loop
+    Inv-search
+    μ-search
+    search-holds
+    member-from-requires
+    add-tried
+    element-copy-out-member-from
+    cast-member-from
+    member-from-requires-2
+    loop-holds
+    has-edge-requires
+    cast-waits
+    element-write-waits
+    search-less
+    search-again
+    add-member-from
+    member-from-requires-3
+    loop-less
+    loop-again
+    returns
+    returns-2)

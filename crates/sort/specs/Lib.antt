@@ -1,0 +1,4 @@
+pub mod Rule
+pub mod Lines
+pub mod Kept
+pub mod Numbers

@@ -1,0 +1,51 @@
+// The line: transactions placed by the rule until none can be placed.
+ghost use mathlib.Core.Path.{_≡_};
+ghost use Prim.Native.Nat.{ℕ};
+ghost use lib.ListN.{length};
+ghost use lib.Seq.{sets};
+ghost use Rattle.sets.specs.Bits.{numbers, has, in-row};
+ghost use Rattle.sort.specs.Rule.{placed, rest};
+ghost use Rattle.sort.specs.Kept.{Kept, Passed, Blocked};
+use crate::search::Ready;
+use crate::search::lowest_ready;
+use sets::NUMBERS;
+
+// How many have been placed, and those that are left.
+pub struct Placed {
+    pub count: usize,
+    pub left: u64,
+}
+
+// Places the transactions of the set, one after the other, in the line. Whom each of those left waits for is then known.
+pub(crate) fn place_all(
+    table: &[u64; NUMBERS],
+    set: u64,
+    waits: &mut [u8; NUMBERS],
+    line: &mut [u8; NUMBERS],
+) -> Placed
+    requires { ⌜ Kept (now waits) ⌝ }
+    requires { ⌜ Passed (in-row (now table)) (has set) (now waits) ⌝ }
+    ensures { λ r. ⌜ r .count ≡ length (placed numbers (in-row (now (table .entry))) numbers (has set)) ⌝ }
+    ensures { λ r. ⌜ now (line .exit) ≡ sets (now (line .entry)) 0 (placed numbers (in-row (now (table .entry))) numbers (has set)) ⌝ }
+    ensures { λ r. ⌜ ((t : ℕ) → has (r .left) t ≡ rest numbers (in-row (now (table .entry))) numbers (has set) t) ⌝ }
+    ensures { λ r. ⌜ Kept (now (waits .exit)) ⌝ }
+    ensures { λ r. ⌜ Blocked (in-row (now (table .entry))) (has (r .left)) (now (waits .exit)) ⌝ }
+{
+    let mut left = set;
+    let mut count: usize = 0;
+    loop {
+        match lowest_ready(table, left, waits) {
+            Ready::None => {
+                return Placed {
+                    count: count,
+                    left: left,
+                };
+            }
+            Ready::At(t) => {
+                line[count] = t as u8;
+                count += 1;
+                left = sets::without_member(left, t);
+            }
+        }
+    }
+}
