@@ -28,7 +28,13 @@ count-same p q zero h = refl
 count-same p q (suc n) h =
     ap₂ _+_ (ap (λ (b : Bool). cond b 1 0) (h n (omega arith))) (count-same p q n (λ e l. h e (omega arith)))
 
--- where there is one, the count is not 0
+-- where there is none, the count is 0
+pub count-none : (p : ℕ → Bool) (n : ℕ) → ((e : ℕ) → p e ≡ false) → count-below n p ≡ 0
+unfolding count-below
+count-none p zero h = refl
+count-none p (suc n) h = rw (h n, count-none p n h) refl
+
+-- where there is one, it is not
 pub count-some : (p : ℕ → Bool) (n e : ℕ) → e < n → p e ≡ true → 1 ≤ count-below n p
 unfolding count-below
 count-some p zero e l h = absurd (omega arith)

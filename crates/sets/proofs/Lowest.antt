@@ -4,16 +4,16 @@ use Prim.Native.Nat.{ℕ, zero, suc, _+_, _-_, _<_, _≤_, _/_, _%_, _^_}
 use native.Mathlib.Omega.{arith}
 use native.Mathlib.Decide.{decLt}
 use mathlib.Core.Path.{_≡_, refl, sym, _∙_, ap}
-use mathlib.Core.Bool.{Bool, true, false}
+use mathlib.Core.Bool.{true, false}
 use lib.Dec.{eqb}
-use lib.Count.{trailingZeros, under, trailing-le}
+use lib.Count.{trailingZeros, under}
 use lib.Pow.{shr-shr}
 use borrow.Author.Tests.{eq-eqb, ne-eqb}
 use Rattle.sets.specs.Bits.{has}
 use Rattle.sets.specs.Search.{first-from}
-use Rattle.sets.proofs.Truth.{clash}
+use Rattle.sets.proofs.Truth.{clash, refuted}
 use Rattle.sets.proofs.Members.{half-has, has-low, has-zero, no-member}
-use Rattle.sets.proofs.From.{FirstFrom, first-from-is}
+use Rattle.sets.proofs.From.{first-from-is}
 
 even-lacks : (x : ℕ) → x % 2 ≡ 0 → has x 0 ≡ false
 unfolding has
@@ -57,14 +57,14 @@ module _ (x k w : ℕ) (fits : x < 2 ^ w) (something : x / 2 ^ k ≡ 0 → ⊥) 
   zeros-low : zeros < w
   zeros-low = go (decLt zeros w)
     where
-      nothing : (zeros < w → ⊥) → (i : ℕ) (b : Bool) → has (x / 2 ^ k) i ≡ b → b ≡ false
-      nothing m i true h =
-          absurd (clash (has (x / 2 ^ k) i) h (trailing-none w (x / 2 ^ k) i (omega (arith, m, has-low x w (k + i) fits (sym (above x k i) ∙ h)))))
-      nothing m i false h = refl
+      nothing : (zeros < w → ⊥) → (i : ℕ) → has (x / 2 ^ k) i ≡ false
+      nothing m i =
+          refuted (has (x / 2 ^ k) i)
+          (λ h. clash (has (x / 2 ^ k) i) h (trailing-none w (x / 2 ^ k) i (omega (arith, m, has-low x w (k + i) fits (sym (above x k i) ∙ h)))))
 
       go : Dec (zeros < w) → zeros < w
       go (yes l) = l
-      go (no m) = absurd (something (no-member (x / 2 ^ k) (λ i. nothing m i (has (x / 2 ^ k) i) refl)))
+      go (no m) = absurd (something (no-member (x / 2 ^ k) (nothing m)))
 
   there : has x (k + zeros) ≡ true
   there = sym (above x k zeros) ∙ trailing-there w (x / 2 ^ k) zeros-low

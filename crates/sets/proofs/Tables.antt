@@ -16,7 +16,7 @@ use lib.Seq.{getD-set-same, getD-set-other, ext-getD, getD-append-seam}
 use lib.Bits.{or-shifted}
 use borrow.Author.Tests.{eq-eqb, ne-eqb, lt-ltb, le-ltb}
 use Rattle.sets.specs.Bits.{has, in-row, set-of, table-of, Holds}
-use Rattle.sets.proofs.Truth.{either, and-always, and-nothing, or-nothing}
+use Rattle.sets.proofs.Truth.{either, refuted, and-always, and-nothing, or-nothing}
 use Rattle.sets.proofs.Searches.{below-cases}
 use Rattle.sets.proofs.Members.{has-zero, has-or, has-power, same-members}
 
@@ -164,11 +164,7 @@ holds-table n r low = record { whole = length-table row n; said = λ i j. go i j
 
     go : (i j : ℕ) → Dec (i < n) → in-row (table-of n row) i j ≡ r i j
     go i j (yes l) = ap (λ (x : ℕ). has x j) (entry row n i l) ∙ has-all n (r i) (λ k h. low i k h .1) j
-    go i j (no l) = row-past (table-of n row) i j (rw (length-table row n) (omega arith)) ∙ sym (outside (either (r i j)))
-      where
-        outside : (r i j ≡ true) ⊎ (r i j ≡ false) → r i j ≡ false
-        outside (inl h) = absurd (l (low i j h .0))
-        outside (inr h) = h
+    go i j (no l) = row-past (table-of n row) i j (rw (length-table row n) (omega arith)) ∙ sym (refuted (r i j) (λ h. l (low i j h .0)))
 
 pub holds-once : {n : ℕ} {r : ℕ → ℕ → Bool} {first second : List ℕ} → Holds n r first → Holds n r second → first ≡ second
 holds-once {first = first} {second = second} v w =

@@ -1,16 +1,16 @@
 -- Laws of the rule's tests: who is a predecessor, who is ready, who is next, who is left when one is placed. Assumes nothing.
-use Prim.Native.Nat.{ℕ, zero, suc, _<_, _≤_}
-use native.Mathlib.Omega.{arith}
+use Prim.Native.Nat.{ℕ, suc, _<_}
 use mathlib.Core.Path.{_≡_, refl, sym, _∙_, ap}
 use mathlib.Core.Bool.{Bool, true, false, _&&_, not}
-use mathlib.Core.Option.{Option, none, some}
+use mathlib.Core.Option.{none, some}
 use lib.Dec.{eqb}
 use borrow.Author.Tests.{eq-eqb, ne-eqb, eqb-false, not-true}
-use Rattle.sets.specs.Search.{some-below, first-below, count-below}
-use Rattle.sets.proofs.Truth.{clash, either, and-true, and-left, and-right, and-always, and-nothing}
-use Rattle.sets.proofs.Searches.{None, First, first-some, first-found, some-none, none-some, first-view, first-none-below, first-miss, some-found}
+use Rattle.sets.specs.Search.{some-below, count-below}
+use Rattle.sets.proofs.Truth.{clash, refuted, and-true, and-left, and-right, and-always, and-nothing}
+use Rattle.sets.proofs.Searches.{None, First, first-some, first-found, some-none, none-some, first-view, first-none-below}
+use Rattle.sets.proofs.Searches.{first-hit, first-miss, some-found}
 use Rattle.sets.proofs.Counts.{count-without, count-same}
-use Rattle.sort.specs.Rule.{predecessor, without, ready, next}
+use Rattle.sort.specs.Rule.{predecessor, without, ready, next, lowest-predecessor}
 use Rattle.sort.specs.Lines.{edge-within}
 
 -- those left without t
@@ -38,22 +38,32 @@ module _ (left : ℕ → Bool) (t : ℕ) where
 module _ (edge : ℕ → ℕ → Bool) where
   -- a predecessor among those left
   module _ (left : ℕ → Bool) (t s : ℕ) where
-    pub is-predecessor : left s ≡ true → (s ≡ t → ⊥) → edge s t ≡ true → predecessor edge left t s ≡ true
+    pub predecessor-said : (left s && (not (eqb s t) && edge s t)) ≡ predecessor edge left t s
     unfolding predecessor
+    predecessor-said = refl
+
+    pub is-predecessor : left s ≡ true → (s ≡ t → ⊥) → edge s t ≡ true → predecessor edge left t s ≡ true
     is-predecessor l q e =
-        and-true (left s) (not (eqb s t) && edge s t) l (and-true (not (eqb s t)) (edge s t) (ap not (ne-eqb s t q)) e)
+        sym predecessor-said
+        ∙ and-true (left s) (not (eqb s t) && edge s t) l (and-true (not (eqb s t)) (edge s t) (ap not (ne-eqb s t q)) e)
+
+    said : predecessor edge left t s ≡ true → (left s ≡ true) × ((not (eqb s t) && edge s t) ≡ true)
+    said h =
+        let e = predecessor-said ∙ h in
+        (and-left (left s) (not (eqb s t) && edge s t) e, and-right (left s) (not (eqb s t) && edge s t) e)
 
     pub predecessor-left : predecessor edge left t s ≡ true → left s ≡ true
-    unfolding predecessor
-    predecessor-left h = and-left (left s) (not (eqb s t) && edge s t) h
+    predecessor-left h = said h .0
 
     pub predecessor-other : predecessor edge left t s ≡ true → s ≡ t → ⊥
-    unfolding predecessor
-    predecessor-other h = eqb-false s t (not-true (eqb s t) (and-left (not (eqb s t)) (edge s t) (and-right (left s) (not (eqb s t) && edge s t) h)))
+    predecessor-other h = eqb-false s t (not-true (eqb s t) (and-left (not (eqb s t)) (edge s t) (said h .1)))
 
     pub predecessor-edge : predecessor edge left t s ≡ true → edge s t ≡ true
-    unfolding predecessor
-    predecessor-edge h = and-right (not (eqb s t)) (edge s t) (and-right (left s) (not (eqb s t) && edge s t) h)
+    predecessor-edge h = and-right (not (eqb s t)) (edge s t) (said h .1)
+
+    -- who is not left is none
+    pub not-predecessor : left s ≡ false → predecessor edge left t s ≡ false
+    not-predecessor f = sym predecessor-said ∙ ap (λ (b : Bool). b && (not (eqb s t) && edge s t)) f
 
   -- an edge between two different members
   module _ (set : ℕ → Bool) (s t : ℕ) where
@@ -107,11 +117,11 @@ module _ (edge : ℕ → ℕ → Bool) where
     not-ready-out t f = rw f refl
 
     pub not-ready-waits : (t s : ℕ) → s < n → predecessor edge left t s ≡ true → ready n edge left t ≡ false
-    not-ready-waits t s l h = go (ready n edge left t) refl
-      where
-        go : (b : Bool) → ready n edge left t ≡ b → b ≡ false
-        go true e = absurd (clash (predecessor edge left t s) h (ready-free t e s l))
-        go false e = refl
+    not-ready-waits t s l h = refuted (ready n edge left t) (λ e. clash (predecessor edge left t s) h (ready-free t e s l))
+
+    pub next-hit : (t : ℕ) → t < n → None (ready n edge left) t → ready n edge left t ≡ true → next n edge left ≡ some t
+    unfolding next
+    next-hit t l f r = first-hit (ready n edge left) n t l f r
 
     pub next-view : First (ready n edge left) n (next n edge left)
     unfolding next
@@ -139,3 +149,19 @@ module _ (edge : ℕ → ℕ → Bool) where
         go : (b : Bool) → some-below n (predecessor edge left t) ≡ b → (s : ℕ) × (predecessor edge left t s ≡ true)
         go true e = let w = some-found (predecessor edge left t) n e in (w .0, w .2)
         go false e = absurd (clash (ready n edge left t) (is-ready t l (none-some (predecessor edge left t) n e)) f)
+
+    -- the lowest-numbered predecessor of t
+    module _ (t : ℕ) where
+      pub lowest-view : First (predecessor edge left t) n (lowest-predecessor n edge left t)
+      unfolding lowest-predecessor
+      lowest-view = first-view (predecessor edge left t) n
+
+      pub lowest-hit : (s : ℕ) → s < n → None (predecessor edge left t) s → predecessor edge left t s ≡ true → lowest-predecessor n edge left t ≡ some s
+      unfolding lowest-predecessor
+      lowest-hit s l f h = first-hit (predecessor edge left t) n s l f h
+
+      pub lowest-is : (s : ℕ) → lowest-predecessor n edge left t ≡ some s → (s < n) × (predecessor edge left t s ≡ true)
+      lowest-is s e = go (rw e at lowest-view)
+        where
+          go : First (predecessor edge left t) n (some s) → (s < n) × (predecessor edge left t s ≡ true)
+          go (first-some l h f) = (l, h)

@@ -2,14 +2,14 @@
 -- number on. Assumes nothing.
 use Prim.Native.Nat.{ℕ, suc, _+_, _-_, _<_, _≤_}
 use native.Mathlib.Omega.{arith}
-use mathlib.Core.Path.{_≡_, refl, sym, _∙_, ap, subst}
+use mathlib.Core.Path.{_≡_, sym, _∙_, ap}
 use mathlib.Core.Bool.{true}
-use mathlib.Core.List.{List, _++_}
+use mathlib.Core.List.{List}
 use lib.ListN.{length, take, drop, length-append, length-drop}
 use lib.Seq.{sets, slice, take-add, take-take, drop-at, drop-drop, length-take-le}
 use Rattle.sets.specs.Bits.{numbers}
 use Rattle.sort.specs.Rule.{among, place-of, lowest, turned, to-lowest}
-use Rattle.sort.proofs.Rings.{lowest-in}
+use Rattle.sort.proofs.Rings.{lowest-in, to-lowest-said}
 use Rattle.sort.proofs.Lists.{place-low}
 use Rattle.sort.proofs.Parts.{sets-append, place-in}
 
@@ -20,12 +20,10 @@ slice-take path at m l =
 
 -- a list, from place p on and then up to it
 two-parts : (xs to : List ℕ) (p : ℕ) → p ≤ length xs → sets (sets to 0 (drop p xs)) (length xs - p) (take p xs) ≡ sets to 0 (turned p xs)
-unfolding turned
 two-parts xs to p l =
     ap (λ (k : ℕ). sets (sets to 0 (drop p xs)) k (take p xs)) (sym (length-drop p xs) ∙ omega arith) ∙ sym (sets-append (drop p xs) (take p xs) to 0)
 
 length-turned : (xs : List ℕ) (p : ℕ) → p ≤ length xs → length (turned p xs) ≡ length xs
-unfolding turned
 length-turned xs p l = length-append (drop p xs) (take p xs) ∙ omega (arith, length-drop p xs, length-take-le p xs l, l)
 
 module _ (path : List ℕ) (at again : ℕ) (whole : length path ≡ numbers) (there : among (drop at path) again ≡ true) where
@@ -65,12 +63,12 @@ module _ (path : List ℕ) (at again : ℕ) (whole : length path ≡ numbers) (t
       low-to = omega (arith, low-place, p-low, ring-length, found)
 
       pub ring-written : (to : List ℕ) → sets (sets to 0 (slice low (last + 1) path)) (last + 1 - low) (slice at low path) ≡ sets to 0 (to-lowest ring)
-      unfolding to-lowest
       ring-written to =
           ap (λ (xs : List ℕ). sets (sets to 0 xs) (last + 1 - low) (slice at low path)) first-part
           ∙ ap (λ (xs : List ℕ). sets (sets to 0 (drop p ring)) (last + 1 - low) xs) second-part
           ∙ ap (λ (k : ℕ). sets (sets to 0 (drop p ring)) k (take p ring)) (omega (arith, low-place, ring-length))
           ∙ two-parts ring to p (omega (arith, p-low))
+          ∙ ap (sets to 0) (to-lowest-said ring)
         where
           first-part : slice low (last + 1) path ≡ drop p ring
           first-part = ap (λ (k : ℕ). slice k (last + 1) path) low-place ∙ sym (drop-drop p at (take (last + 1) path)) ∙ ap (drop p) ring-part
@@ -82,5 +80,4 @@ module _ (path : List ℕ) (at again : ℕ) (whole : length path ≡ numbers) (t
               ∙ sym (take-take p (suc (place-of again (drop at path))) (drop at path) (omega (arith, p-low, ring-length, found)))
 
       pub ring-count : last + 1 - at ≡ length (to-lowest ring)
-      unfolding to-lowest
-      ring-count = sym (length-turned ring p (omega (arith, p-low)) ∙ ring-length)
+      ring-count = sym (sym (ap length (to-lowest-said ring)) ∙ length-turned ring p (omega (arith, p-low)) ∙ ring-length)

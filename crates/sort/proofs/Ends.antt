@@ -2,45 +2,42 @@
 -- the predecessors that were kept is the rule's walk, since in a rest where nobody is ready these are the lowest. Assumes nothing.
 use Prim.Native.Nat.{ℕ, zero, suc, _+_, _<_, _≤_}
 use native.Mathlib.Omega.{arith}
-use mathlib.Core.Path.{_≡_, refl, sym, _∙_, ap, subst, fun-ext}
-use mathlib.Core.Bool.{Bool, true, false, cond}
-use mathlib.Core.List.{List, [], _∷_, _++_}
-use mathlib.Core.Option.{Option, none, some, Option·elim}
-use lib.ListN.{length, take, drop, getD, replicate, length-replicate}
-use lib.Seq.{sets, slice, sets-eq, take-at, length-sets}
+use mathlib.Core.Path.{_≡_, refl, sym, _∙_, ap, fun-ext}
+use mathlib.Core.Bool.{Bool, true, false}
+use mathlib.Core.List.{List, [], _∷_}
+use mathlib.Core.Option.{Option, none, some}
+use lib.ListN.{length, take, drop}
+use lib.Seq.{sets, slice, sets-eq, take-at}
 use Rattle.sets.specs.Bits.{numbers}
-use Rattle.sets.specs.Search.{first-below, first-from}
-use Rattle.sets.proofs.Searches.{None, First, first-some, first-found, first-hit, first-miss}
 use Rattle.sets.proofs.From.{FirstFrom}
-use Rattle.sort.specs.Rule.{among, place-of, predecessor, without, next, placed, rest, lowest-predecessor, walk, to-lowest, cycle-from, sorted, line, cycle}
+use Rattle.sort.specs.Rule.{among, without, next, placed, rest, lowest-predecessor, walk, to-lowest, sorted, line, cycle}
 use Rattle.sort.specs.Kept.{Blocked, back}
-use Rattle.sort.proofs.Chosen.{predecessor-left}
-use Rattle.sort.proofs.Placing.{placed-zero, placed-none, placed-some}
-use Rattle.sort.proofs.Waits.{found-from}
+use Rattle.sort.proofs.Chosen.{predecessor-left, lowest-is}
+use Rattle.sort.proofs.Clauses.{placed-zero, placed-none, placed-some, sorted-line, sorted-cycle, walk-zero, walk-lost}
+use Rattle.sort.proofs.Clauses.{walk-ends, walk-goes}
 
 -- two walks that go the same way from everybody of a set, and never leave it
 pub walk-same : (f g : ℕ → Option ℕ) (p : ℕ → Bool) → ((t : ℕ) → p t ≡ true → f t ≡ g t) → ((t s : ℕ) → p t ≡ true → f t ≡ some s → p s ≡ true)
     → (m t : ℕ) (path : List ℕ) → p t ≡ true → walk f m t path ≡ walk g m t path
-unfolding walk Option·elim
-walk-same f g p e stays zero t path h = refl
-walk-same f g p e stays (suc m) t path h =
-    go (f t) refl (λ s k. walk-same f g p e stays m s (s ∷ path) k)
-    ∙ ap (λ (o : Option ℕ). Option·elim o [] (λ s. cond (among path s) (take (suc (place-of s path)) path) (walk g m s (s ∷ path)))) (e t h)
+walk-same f g p e stays zero t path h = walk-zero f t path ∙ sym (walk-zero g t path)
+walk-same f g p e stays (suc m) t path h = go (f t) refl (λ s k. walk-same f g p e stays m s (s ∷ path) k)
   where
-    go : (o : Option ℕ) → f t ≡ o → ((s : ℕ) → p s ≡ true → walk f m s (s ∷ path) ≡ walk g m s (s ∷ path))
-        → Option·elim o [] (λ s. cond (among path s) (take (suc (place-of s path)) path) (walk f m s (s ∷ path)))
-        ≡ Option·elim o [] (λ s. cond (among path s) (take (suc (place-of s path)) path) (walk g m s (s ∷ path)))
-    go none q ih = refl
-    go (some s) q ih = ap (λ (xs : List ℕ). cond (among path s) (take (suc (place-of s path)) path) xs) (ih s (stays t s h q))
+    go : (o : Option ℕ) → f t ≡ o → ((s : ℕ) → p s ≡ true → walk f m s (s ∷ path) ≡ walk g m s (s ∷ path)) → walk f (suc m) t path ≡ walk g (suc m) t path
+    go none q ih = walk-lost f m t path q ∙ sym (walk-lost g m t path (sym (e t h) ∙ q))
+    go (some s) q ih = met (among path s) refl
+      where
+        met : (b : Bool) → among path s ≡ b → walk f (suc m) t path ≡ walk g (suc m) t path
+        met true a = walk-ends f m t s path q a ∙ sym (walk-ends g m t s path (sym (e t h) ∙ q) a)
+        met false a = walk-goes f m t s path q a ∙ ih s (stays t s h q) ∙ sym (walk-goes g m t s path (sym (e t h) ∙ q) a)
 
 -- no more are placed than places were given
 placed-length : (n : ℕ) (edge : ℕ → ℕ → Bool) (m : ℕ) (left : ℕ → Bool) → length (placed n edge m left) ≤ m
-placed-length n edge zero left = rw (placed-zero edge n left) (omega arith)
+placed-length n edge zero left = rw (placed-zero n edge left) (omega arith)
 placed-length n edge (suc m) left = go (next n edge left) refl (λ t. placed-length n edge m (without left t))
   where
     go : (o : Option ℕ) → next n edge left ≡ o → ((t : ℕ) → length (placed n edge m (without left t)) ≤ m) → length (placed n edge (suc m) left) ≤ suc m
-    go none e ih = rw (placed-none edge n (suc m) left e) (omega arith)
-    go (some t) e ih = rw (placed-some edge n m left t e) (omega (arith, ih t))
+    go none e ih = rw (placed-none n edge (suc m) left e) (omega arith)
+    go (some t) e ih = rw (placed-some n edge m left t e) (omega (arith, ih t))
 
 module _ (edge : ℕ → ℕ → Bool) (set : ℕ → Bool) where
   abbrev line-of : List ℕ
@@ -61,25 +58,16 @@ module _ (edge : ℕ → ℕ → Bool) (set : ℕ → Bool) where
 
     -- nobody left
     pub ends-in-line : FirstFrom left 0 numbers numbers → sorted numbers edge set ≡ line line-of
-    unfolding sorted Option·elim
-    ends-in-line w =
-        ap (λ (o : Option ℕ). Option·elim o (line line-of) (λ t. cycle (cycle-from numbers edge (rest numbers edge numbers set) t)))
-        (first-miss (rest numbers edge numbers set) numbers (λ t l. sym (same t) ∙ w .none-before t (omega arith) l))
+    ends-in-line w = sorted-line numbers edge set (λ t l. sym (same t) ∙ w .none-before t (omega arith) l)
 
     -- somebody left
     module _ (waits : List ℕ) (blocked : Blocked edge left waits) (t : ℕ) (w : FirstFrom left 0 numbers t) (l : t < numbers) where
       stays : (u s : ℕ) → left u ≡ true → lowest-predecessor numbers edge left u ≡ some s → left s ≡ true
-      unfolding lowest-predecessor
-      stays u s h e = go (first-found (predecessor edge left u) numbers e)
-        where
-          go : First (predecessor edge left u) numbers (some s) → left s ≡ true
-          go (first-some m q f) = predecessor-left edge left u s q
+      stays u s h e = predecessor-left edge left u s (lowest-is edge numbers left u s e .1)
 
       pub ends-in-cycle : sorted numbers edge set ≡ cycle (to-lowest (walk (back waits) numbers t (t ∷ [])))
-      unfolding sorted cycle-from Option·elim
       ends-in-cycle =
-          ap (λ (o : Option ℕ). Option·elim o (line line-of) (λ u. cycle (cycle-from numbers edge (rest numbers edge numbers set) u)))
-          (first-hit (rest numbers edge numbers set) numbers t l (λ u m. sym (same u) ∙ w .none-before u (omega arith) m) (sym (same t) ∙ w .passes l .1))
+          sorted-cycle numbers edge set t l (λ u m. sym (same u) ∙ w .none-before u (omega arith) m) (sym (same t) ∙ w .passes l .1)
           ∙ ap (λ (f : ℕ → Bool). cycle (to-lowest (walk (lowest-predecessor numbers edge f) numbers t (t ∷ [])))) (sym left-is-rest)
           ∙ ap (λ (xs : List ℕ). cycle (to-lowest xs))
           (walk-same (lowest-predecessor numbers edge left) (back waits) left blocked stays numbers t (t ∷ []) (w .passes l .1))

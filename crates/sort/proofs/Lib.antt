@@ -1,5 +1,6 @@
 pub mod Lists
 pub mod Chosen
+pub mod Clauses
 pub mod Placing
 pub mod Rings
 pub mod Sorts
@@ -9,3 +10,4 @@ pub mod Runs
 pub mod Walks
 pub mod Cut
 pub mod Ends
+pub mod Determined

@@ -4,17 +4,17 @@ use Prim.Native.Nat.{ℕ, zero, suc, _+_, _<_, _≤_}
 use native.Mathlib.Omega.{arith}
 use native.Mathlib.Decide.{ℕ-discrete}
 use mathlib.Core.Path.{_≡_, refl, sym, _∙_, ap, subst}
-use mathlib.Core.Bool.{Bool, true, false, _&&_, _||_, not, cond}
+use mathlib.Core.Bool.{Bool, true, false, _&&_, _||_, not}
 use mathlib.Core.Logic.{_⊎_, inl, inr, ⊎-elim}
 use mathlib.Core.List.{List, [], _∷_, _++_}
 use lib.Dec.{eqb}
 use lib.ListN.{length, take, getD}
-use borrow.Author.Tests.{eq-eqb, ne-eqb, eqb-true, eqb-false}
+use borrow.Author.Tests.{eq-eqb, ne-eqb, eqb-true}
 use Rattle.sets.specs.Search.{count-below}
-use Rattle.sets.proofs.Truth.{clash, either, and-true, or-cases, or-hit-left, or-hit-right, or-left, or-right, or-false}
+use Rattle.sets.proofs.Truth.{clash, refuted, and-true, or-cases, or-hit-left, or-hit-right, or-left, or-right, or-false}
 use Rattle.sets.proofs.Counts.{count-without}
 use Rattle.sort.specs.Rule.{among, place-of}
-use Rattle.sort.specs.Lines.{NoneTwice, stands-before}
+use Rattle.sort.specs.Lines.{NoneTwice}
 
 -- what is among them
 pub among-nil : (t : ℕ) → among [] t ≡ false
@@ -74,8 +74,7 @@ twice-join (x ∷ xs) ys h k a = (
 )
 
 apart-back : (xs ys : List ℕ) → Apart xs ys → Apart ys xs
-apart-back xs ys a t e =
-    ⊎-elim (λ (h : among xs t ≡ true). absurd (clash (among ys t) e (a t h))) (λ (h : among xs t ≡ false). h) (either (among xs t))
+apart-back xs ys a t e = refuted (among xs t) (λ h. clash (among ys t) e (a t h))
 
 pub twice-swap : (xs ys : List ℕ) → NoneTwice (xs ++ ys) → NoneTwice (ys ++ xs)
 twice-swap xs ys h = let w = twice-split xs ys h in twice-join ys xs (w .1) (w .0) (apart-back xs ys (w .2))

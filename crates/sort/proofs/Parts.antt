@@ -1,13 +1,13 @@
 -- Laws of parts of a buffer: written one by one they stand in the other buffer as a list does, and a part's place of a number, or of its
 -- lowest, is where it is found first. Assumes nothing.
-use Prim.Native.Nat.{ℕ, zero, suc, _+_, _-_, _<_, _≤_}
+use Prim.Native.Nat.{ℕ, suc, _+_, _-_, _<_, _≤_}
 use native.Mathlib.Omega.{arith}
 use native.Mathlib.Numerals.{add-one}
-use mathlib.Core.Path.{_≡_, refl, sym, _∙_, ap}
+use mathlib.Core.Path.{_≡_, sym, _∙_, ap}
 use mathlib.Core.Bool.{true}
 use mathlib.Core.List.{List, [], _∷_, _++_}
 use native.Mathlib.Decide.{ℕ-discrete}
-use lib.ListN.{length, take, drop, getD, set, length-drop, length-append}
+use lib.ListN.{length, take, drop, getD, set, length-drop}
 use lib.Seq.{sets, slice, length-slice, slice-empty, take-suc, getD-take, getD-drop, drop-append-le, length-take-le}
 use Rattle.sort.specs.Rule.{among, place-of, lowest}
 use Rattle.sort.proofs.Lists.{place-low, place-entry, place-is, place-before, among-entry}

@@ -1,28 +1,30 @@
 -- The line. Placing one that is ready, again and again until none is left, gives a line that keeps every edge, and every such line is made
 -- in that way; the rule's is the smallest, since it takes the lowest that any of them could take. From a stuck rest there is none: of the
 -- rest, somebody would stand first in it, before the predecessor that he waits for. Assumes nothing.
-use Prim.Native.Nat.{ℕ, zero, suc, _+_, _<_, _≤_}
+use Prim.Native.Nat.{ℕ, zero, suc, _<_, _≤_}
 use native.Mathlib.Omega.{arith}
 use native.Mathlib.Decide.{ℕ-discrete, decLt}
 use mathlib.Core.Path.{_≡_, refl, sym, _∙_, ap, subst}
-use mathlib.Core.Bool.{Bool, true, false, _&&_, _||_, not}
+use mathlib.Core.Bool.{Bool, true, false, _&&_, not}
 use mathlib.Core.Logic.{_⊎_, inl, inr, ⊎-elim}
-use mathlib.Core.List.{List, [], _∷_, _++_}
-use mathlib.Core.Option.{Option, none, some, Option·elim}
+use mathlib.Core.List.{List, [], _∷_}
+use mathlib.Core.Option.{Option, none, some}
 use lib.Dec.{eqb}
-use borrow.Author.Tests.{eq-eqb, ne-eqb, eqb-true}
-use Rattle.sets.specs.Search.{some-below, first-below, count-below}
+use lib.ListN.{length}
+use borrow.Author.Tests.{eq-eqb, eqb-true}
+use Rattle.sets.specs.Search.{count-below}
 use Rattle.sets.specs.Paths.{Precedes, by-edge, edge-then, Acyclic}
-use Rattle.sets.proofs.Truth.{clash, either, and-true, and-left, and-right, or-cases, or-hit-left, or-hit-right}
-use Rattle.sets.proofs.Searches.{None, First, first-none, first-some}
-use Rattle.sets.proofs.Counts.{count-some}
+use Rattle.sets.proofs.Truth.{clash, refuted, and-true, and-left, and-right, or-cases, or-hit-left, or-hit-right}
+use Rattle.sets.proofs.Searches.{First, first-some}
+use Rattle.sets.proofs.Counts.{count-none, count-some}
 use Rattle.sort.specs.Rule.{among, predecessor, without, ready, next, placed, rest}
 use Rattle.sort.specs.Lines.{NoneTwice, stands-before, edge-within, Below, Line, AtMost, ended, smaller, same-first, Stuck}
-use Rattle.sort.proofs.Lists.{among-nil, among-cons, among-first, among-later, among-cases, among-other, differ}
+use Rattle.sort.proofs.Lists.{among-nil, among-first, among-later, among-other, differ}
 use Rattle.sort.proofs.Chosen.{without-itself, without-other, still-left, not-placed, one-fewer}
 use Rattle.sort.proofs.Chosen.{is-predecessor, predecessor-left, predecessor-other, predecessor-edge}
 use Rattle.sort.proofs.Chosen.{is-within, within-from, within-to, within-other, within-edge, within-more}
-use Rattle.sort.proofs.Chosen.{is-ready, ready-left, ready-free, not-ready-out, not-ready-waits, next-view, next-none, none-next}
+use Rattle.sort.proofs.Clauses.{placed-zero, placed-none, placed-some, rest-zero, rest-none, rest-some}
+use Rattle.sort.proofs.Chosen.{is-ready, ready-left, ready-free, not-ready-out, next-view, none-next}
 
 -- who stands before whom
 stands-nil : (s t : ℕ) → stands-before [] s t ≡ false
@@ -89,7 +91,7 @@ module _ (edge : ℕ → ℕ → Bool) where
           let f = w (λ (q : x ≡ u). differ left u x l e (sym q)) in
           (f .0, f .1, λ s h. ⊎-elim (λ (v : (x ≡ s) × (among xs (f .0) ≡ true)). ap left (sym (v .0)) ∙ e) (λ (v : stands-before xs s (f .0) ≡ true). f .2 s v) (stands-cases x xs s (f .0) h))
 
-  -- "from a rest in which every member has a predecessor in the rest no line exists": none of the rest, and none of a set that has it
+  -- THEOREM: from a rest in which every member has a predecessor in the rest no line exists, neither of the rest nor of a set that has it
   pub no-line : (set left : ℕ → Bool) → Stuck edge left → ((t : ℕ) → left t ≡ true → set t ≡ true) → (xs : List ℕ) → Line edge set xs → ⊥
   no-line set left stuck sub xs l =
       let u = stuck .someone in
@@ -150,19 +152,15 @@ module _ (edge : ℕ → ℕ → Bool) where
 
     -- and every line that keeps every edge is made so
     first-ready : (left : ℕ → Bool) (x : ℕ) (xs : List ℕ) → Line edge left (x ∷ xs) → ready n edge left x ≡ true
-    first-ready left x xs l = is-ready edge n left x there (λ s m. free s (predecessor edge left x s) refl)
+    first-ready left x xs l = is-ready edge n left x there (λ s m. refuted (predecessor edge left x s) (blocks s))
       where
         there : left x ≡ true
         there = sym (l .all-and-only x) ∙ among-first x xs
 
-        free : (s : ℕ) (b : Bool) → predecessor edge left x s ≡ b → b ≡ false
-        free s true h =
-            absurd
-            (clash (among xs x)
-            (after-first x xs s x
-            (l .keeps-edges s x (is-within edge left s x (predecessor-left edge left x s h) there (predecessor-other edge left x s h) (predecessor-edge edge left x s h))))
-            (l .none-twice .0))
-        free s false h = refl
+        blocks : (s : ℕ) → predecessor edge left x s ≡ true → ⊥
+        blocks s h =
+            let e = is-within edge left s x (predecessor-left edge left x s h) there (predecessor-other edge left x s h) (predecessor-edge edge left x s h) in
+            clash (among xs x) (after-first x xs s x (l .keeps-edges s x e)) (l .none-twice .0)
 
     later-line : (left : ℕ → Bool) (x : ℕ) (xs : List ℕ) → Line edge left (x ∷ xs) → Line edge (without left x) xs
     later-line left x xs l = record { none-twice = l .none-twice .1; all-and-only = λ t. members t (ℕ-discrete x t); keeps-edges = keeps }
@@ -181,81 +179,62 @@ module _ (edge : ℕ → ℕ → Bool) where
     line-steps left [] l = λ t. sym (l .all-and-only t) ∙ among-nil t
     line-steps left (x ∷ xs) l = (first-ready left x xs l, line-steps (without left x) xs (later-line left x xs l))
 
-    -- what the rule places, and whom it leaves
-    pub placed-none : (m : ℕ) (left : ℕ → Bool) → next n edge left ≡ none → placed n edge m left ≡ []
-    unfolding placed Option·elim
-    placed-none zero left e = refl
-    placed-none (suc m) left e = rw e refl
-
-    pub placed-some : (m : ℕ) (left : ℕ → Bool) (t : ℕ) → next n edge left ≡ some t → placed n edge (suc m) left ≡ t ∷ placed n edge m (without left t)
-    unfolding placed Option·elim
-    placed-some m left t e = rw e refl
-
-    pub rest-none : (m : ℕ) (left : ℕ → Bool) → next n edge left ≡ none → rest n edge m left ≡ left
-    unfolding rest Option·elim
-    rest-none zero left e = refl
-    rest-none (suc m) left e = rw e refl
-
-    pub rest-some : (m : ℕ) (left : ℕ → Bool) (t : ℕ) → next n edge left ≡ some t → rest n edge (suc m) left ≡ rest n edge m (without left t)
-    unfolding rest Option·elim
-    rest-some m left t e = rw e refl
-
-    pub rest-zero : (left : ℕ → Bool) → rest n edge zero left ≡ left
-    unfolding rest
-    rest-zero left = refl
-
-    pub placed-zero : (left : ℕ → Bool) → placed n edge zero left ≡ []
-    unfolding placed
-    placed-zero left = refl
+    -- THEOREM: a line is as long as the set is large
+    pub line-length : (left : ℕ → Bool) (xs : List ℕ) → Below n left → Line edge left xs → length xs ≡ count-below n left
+    line-length left xs low l = go left xs low (line-steps left xs l)
+      where
+        go : (left : ℕ → Bool) (xs : List ℕ) → Below n left → Steps left xs → length xs ≡ count-below n left
+        go left [] low gone = sym (count-none left n gone)
+        go left (x ∷ xs) low w = ap suc (go (without left x) xs (low-without left x low) (w .1)) ∙ sym (one-fewer left x n (low x there) there)
+          where
+            there : left x ≡ true
+            there = ready-left edge n left x (w .0)
 
     -- whoever is left at the end was in the set
     pub rest-within : (m : ℕ) (left : ℕ → Bool) (t : ℕ) → rest n edge m left t ≡ true → left t ≡ true
-    rest-within zero left t h = sym (ap (λ (f : ℕ → Bool). f t) (rest-zero left)) ∙ h
+    rest-within zero left t h = sym (ap (λ (f : ℕ → Bool). f t) (rest-zero n edge left)) ∙ h
     rest-within (suc m) left t h = go (next n edge left) refl (λ u. rest-within m (without left u) t)
       where
         go : (o : Option ℕ) → next n edge left ≡ o → ((u : ℕ) → rest n edge m (without left u) t ≡ true → without left u t ≡ true) → left t ≡ true
-        go none e ih = sym (ap (λ (f : ℕ → Bool). f t) (rest-none (suc m) left e)) ∙ h
-        go (some u) e ih = still-left left u t (ih u (sym (ap (λ (f : ℕ → Bool). f t) (rest-some m left u e)) ∙ h))
+        go none e ih = sym (ap (λ (f : ℕ → Bool). f t) (rest-none n edge (suc m) left e)) ∙ h
+        go (some u) e ih = still-left left u t (ih u (sym (ap (λ (f : ℕ → Bool). f t) (rest-some n edge m left u e)) ∙ h))
 
     -- at the end none can be placed: every place takes one, so as many places as there are members are enough
     nobody : (left : ℕ → Bool) → count-below n left ≤ 0 → next n edge left ≡ none
-    nobody left c = none-next edge n left (λ t l. not-ready-out edge n left t (out t l (left t) refl))
-      where
-        out : (t : ℕ) → t < n → (b : Bool) → left t ≡ b → b ≡ false
-        out t l true h = absurd (omega (arith, c, count-some left n t l h))
-        out t l false h = refl
+    nobody left c =
+        none-next edge n left (λ t l. not-ready-out edge n left t (refuted (left t) (λ h. omega (arith, c, count-some left n t l h))))
 
     pub rest-ends : (m : ℕ) (left : ℕ → Bool) → count-below n left ≤ m → next n edge (rest n edge m left) ≡ none
-    rest-ends zero left c = ap (next n edge) (rest-zero left) ∙ nobody left c
+    rest-ends zero left c = ap (next n edge) (rest-zero n edge left) ∙ nobody left c
     rest-ends (suc m) left c = go (next n edge left) refl (next-view edge n left) (λ u d. rest-ends m (without left u) d)
       where
         go : (o : Option ℕ) → next n edge left ≡ o → First (ready n edge left) n o
             → ((u : ℕ) → count-below n (without left u) ≤ m → next n edge (rest n edge m (without left u)) ≡ none) → next n edge (rest n edge (suc m) left) ≡ none
-        go none e v ih = ap (next n edge) (rest-none (suc m) left e) ∙ e
+        go none e v ih = ap (next n edge) (rest-none n edge (suc m) left e) ∙ e
         go (some u) e (first-some l r f) ih =
-            ap (next n edge) (rest-some m left u e) ∙ ih u (omega (arith, c, one-fewer left u n l (ready-left edge n left u r)))
+            ap (next n edge) (rest-some n edge m left u e) ∙ ih u (omega (arith, c, one-fewer left u n l (ready-left edge n left u r)))
 
     -- where nobody is left, what the rule placed was made place by place,
     pub placed-steps : (m : ℕ) (left : ℕ → Bool) → ((t : ℕ) → rest n edge m left t ≡ false) → Steps left (placed n edge m left)
-    placed-steps zero left f = rw (placed-zero left) (λ t. sym (ap (λ (g : ℕ → Bool). g t) (rest-zero left)) ∙ f t)
+    placed-steps zero left f = rw (placed-zero n edge left) (λ t. sym (ap (λ (g : ℕ → Bool). g t) (rest-zero n edge left)) ∙ f t)
     placed-steps (suc m) left f = go (next n edge left) refl (next-view edge n left) (λ u. placed-steps m (without left u))
       where
         go : (o : Option ℕ) → next n edge left ≡ o → First (ready n edge left) n o
             → ((u : ℕ) → ((t : ℕ) → rest n edge m (without left u) t ≡ false) → Steps (without left u) (placed n edge m (without left u))) → Steps left (placed n edge (suc m) left)
-        go none e v ih = rw (placed-none (suc m) left e) (λ t. sym (ap (λ (g : ℕ → Bool). g t) (rest-none (suc m) left e)) ∙ f t)
+        go none e v ih = rw (placed-none n edge (suc m) left e) (λ t. sym (ap (λ (g : ℕ → Bool). g t) (rest-none n edge (suc m) left e)) ∙ f t)
         go (some u) e (first-some l r g) ih =
-            rw (placed-some m left u e) (r, ih u (λ t. sym (ap (λ (g : ℕ → Bool). g t) (rest-some m left u e)) ∙ f t))
+            rw (placed-some n edge m left u e) (r, ih u (λ t. sym (ap (λ (g : ℕ → Bool). g t) (rest-some n edge m left u e)) ∙ f t))
 
     -- and is the smallest of all that are
     pub placed-smallest : (m : ℕ) (left : ℕ → Bool) (ys : List ℕ) → Steps left ys → AtMost (placed n edge m left) ys
-    placed-smallest zero left ys w = rw (placed-zero left) ended
+    placed-smallest zero left ys w = rw (placed-zero n edge left) ended
     placed-smallest (suc m) left ys w = go (next n edge left) refl (next-view edge n left) ys w (λ u zs. placed-smallest m (without left u) zs)
       where
         go : (o : Option ℕ) → next n edge left ≡ o → First (ready n edge left) n o → (ys : List ℕ) → Steps left ys
             → ((u : ℕ) (zs : List ℕ) → Steps (without left u) zs → AtMost (placed n edge m (without left u)) zs) → AtMost (placed n edge (suc m) left) ys
-        go none e v ys w ih = rw (placed-none (suc m) left e) ended
+        go none e v ys w ih = rw (placed-none n edge (suc m) left e) ended
         go (some u) e (first-some l r g) [] w ih = absurd (clash (left u) (ready-left edge n left u r) (w u))
-        go (some u) e (first-some l r g) (y ∷ ys) w ih = rw (placed-some m left u e) (lower (ℕ-discrete u y) (decLt y u))
+        go (some u) e (first-some l r g) (y ∷ ys) w ih = rw (placed-some n edge m left u e) (lower (ℕ-discrete u y) (decLt y u))
           where
             lower : Dec (u ≡ y) → Dec (y < u) → AtMost (u ∷ placed n edge m (without left u)) (y ∷ ys)
             lower (yes q) d = rw (← q) (same-first (ih u ys (rw q (w .1))))

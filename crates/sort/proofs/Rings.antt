@@ -4,20 +4,22 @@ use Prim.Native.Nat.{ℕ, zero, suc, _+_, _<_, _≤_, min}
 use native.Mathlib.Omega.{arith}
 use native.Mathlib.Decide.{decLt}
 use mathlib.Core.Path.{_≡_, refl, sym, _∙_, ap, subst}
-use mathlib.Core.Bool.{Bool, true, false, _||_}
-use mathlib.Core.Logic.{_⊎_, inl, inr, ⊎-elim}
+use mathlib.Core.Bool.{Bool, true, false}
+use mathlib.Core.Logic.{_⊎_, ⊎-elim}
 use mathlib.Core.List.{List, [], _∷_, _++_, append-nil, append-assoc}
-use mathlib.Core.Option.{Option, none, some, Option·elim}
-use lib.ListN.{length, take, drop, getD, length-append, take-append-drop, length-take, length-drop}
+use mathlib.Core.Option.{Option, none, some}
+use lib.ListN.{length, take, drop, getD, length-append, take-append-drop}
 use lib.Seq.{drop-cons, split-at}
-use Rattle.sets.specs.Search.{first-below, count-below}
-use Rattle.sets.specs.Paths.{Precedes, by-edge, edge-then, Acyclic}
+use Rattle.sets.specs.Search.{count-below}
+use Rattle.sets.specs.Paths.{Precedes, by-edge, edge-then}
 use Rattle.sets.proofs.Truth.{clash, or-swap, or-hit-left}
-use Rattle.sets.proofs.Searches.{None, First, first-none, first-some, first-view}
+use Rattle.sets.proofs.Searches.{First, first-none, first-some}
 use Rattle.sort.specs.Rule.{among, place-of, lowest, turned, to-lowest, predecessor, lowest-predecessor, walk}
 use Rattle.sort.specs.Lines.{NoneTwice, edge-within, Below, Linked, Cycle, FromLowest, Stuck}
-use Rattle.sort.proofs.Lists.{among-nil, among-first, among-later, among-cases, among-append, twice-split, twice-join, twice-swap, UpTo, up-to, place-low, place-entry, among-entry, pigeonhole}
-use Rattle.sort.proofs.Chosen.{predecessor-left, predecessor-other, predecessor-edge, is-within}
+use Rattle.sort.proofs.Lists.{among-nil, among-first, among-later, among-cases, among-append, twice-split, twice-swap}
+use Rattle.sort.proofs.Lists.{up-to, place-low, place-entry, pigeonhole}
+use Rattle.sort.proofs.Chosen.{predecessor-left, predecessor-other, predecessor-edge, is-within, lowest-view}
+use Rattle.sort.proofs.Clauses.{walk-ends, walk-goes}
 
 module _ (r : ℕ → ℕ → Bool) where
   -- linked lists, cut and joined where a number stands in both
@@ -77,13 +79,15 @@ among-swap xs ys t a = among-append xs ys t ∙ or-swap (among xs t) (among ys t
 
 -- a list turned to its lowest number starts with it, and has the same members
 module _ (xs : List ℕ) where
+  pub to-lowest-said : turned (place-of (lowest xs) xs) xs ≡ to-lowest xs
+  unfolding to-lowest
+  to-lowest-said = refl
+
   turned-among : (k t : ℕ) → among (turned k xs) t ≡ true → among xs t ≡ true
-  unfolding turned
   turned-among k t a =
       sym (ap (λ (zs : List ℕ). among zs t) (take-append-drop k xs)) ∙ among-swap (take k xs) (drop k xs) t a
 
   turned-starts : (k : ℕ) → k < length xs → turned k xs ≡ getD xs k 0 ∷ (drop (suc k) xs ++ take k xs)
-  unfolding turned
   turned-starts k l = ap (λ (zs : List ℕ). zs ++ take k xs) (drop-cons xs k 0 l)
 
   module _ (some-one : 1 ≤ length xs) where
@@ -98,23 +102,12 @@ module _ (xs : List ℕ) where
     lowest-place = place-low (lowest xs) xs lowest-in
 
     pub from-lowest : FromLowest (to-lowest xs)
-    unfolding to-lowest
-    from-lowest = go (place-of (lowest xs) xs) lowest-place (place-entry (lowest xs) xs lowest-in)
+    from-lowest = subst FromLowest to-lowest-said (go (place-of (lowest xs) xs) lowest-place (place-entry (lowest xs) xs lowest-in))
       where
         go : (k : ℕ) → k < length xs → getD xs k 0 ≡ lowest xs → FromLowest (turned k xs)
         go k l e =
             subst FromLowest (sym (turned-starts k l))
             (λ t a. rw e (lowest-low xs t (turned-among k t (ap (λ (zs : List ℕ). among zs t) (turned-starts k l) ∙ among-later (getD xs k 0) (drop (suc k) xs ++ take k xs) t a))))
-
--- a step of the walk
-module _ (back : ℕ → Option ℕ) where
-  pub walk-ends : (m t s : ℕ) (path : List ℕ) → back t ≡ some s → among path s ≡ true → walk back (suc m) t path ≡ take (suc (place-of s path)) path
-  unfolding walk Option·elim
-  walk-ends m t s path e a = rw (e, a) refl
-
-  pub walk-goes : (m t s : ℕ) (path : List ℕ) → back t ≡ some s → among path s ≡ false → walk back (suc m) t path ≡ walk back m s (s ∷ path)
-  unfolding walk Option·elim
-  walk-goes m t s path e a = rw (e, a) refl
 
 module _ (edge : ℕ → ℕ → Bool) where
   -- a cycle may be turned
@@ -129,12 +122,13 @@ module _ (edge : ℕ → ℕ → Bool) where
 
   module _ (set : ℕ → Bool) (xs : List ℕ) (k : ℕ) (l : k < length xs) (c : Cycle edge set xs) where
     turned-cycle : Cycle edge set (turned k xs)
-    unfolding turned
-    turned-cycle = subst (λ (zs : List ℕ). Cycle edge set (zs ++ take k xs)) (sym (drop-cons xs k 0 l)) (turn-cycle set (take k xs) (getD xs k 0) (drop (suc k) xs) (subst (Cycle edge set) (split-at xs k 0 l) c))
+    turned-cycle =
+        subst (λ (zs : List ℕ). Cycle edge set (zs ++ take k xs)) (sym (drop-cons xs k 0 l))
+        (turn-cycle set (take k xs) (getD xs k 0) (drop (suc k) xs) (subst (Cycle edge set) (split-at xs k 0 l) c))
 
   pub to-lowest-cycle : (set : ℕ → Bool) (xs : List ℕ) → Cycle edge set xs → Cycle edge set (to-lowest xs)
-  unfolding to-lowest
-  to-lowest-cycle set xs c = turned-cycle set xs (place-of (lowest xs) xs) (lowest-place xs (omega (arith, c .at-least-two))) c
+  to-lowest-cycle set xs c =
+      subst (Cycle edge set) (to-lowest-said xs) (turned-cycle set xs (place-of (lowest xs) xs) (lowest-place xs (omega (arith, c .at-least-two))) c)
 
   -- who is on the path: nobody twice, all of them left, each with an edge to the next
   abbrev pub Path : (ℕ → Bool) → List ℕ → Type 0
@@ -179,17 +173,16 @@ module _ (edge : ℕ → ℕ → Bool) where
     -- in a stuck rest the walk always finds a lowest predecessor
     pub lowest-found : Below n left → Stuck edge left → (t : ℕ) → left t ≡ true
         → (s : ℕ) × (lowest-predecessor n edge left t ≡ some s) × (predecessor edge left t s ≡ true)
-    unfolding lowest-predecessor
-    lowest-found low stuck t l = go (first-below n (predecessor edge left t)) refl (first-view (predecessor edge left t) n)
+    lowest-found low stuck t l = go (lowest-predecessor n edge left t) refl (lowest-view edge n left t)
       where
-        go : (o : Option ℕ) → first-below n (predecessor edge left t) ≡ o → First (predecessor edge left t) n o
-            → (s : ℕ) × (first-below n (predecessor edge left t) ≡ some s) × (predecessor edge left t s ≡ true)
+        go : (o : Option ℕ) → lowest-predecessor n edge left t ≡ o → First (predecessor edge left t) n o
+            → (s : ℕ) × (lowest-predecessor n edge left t ≡ some s) × (predecessor edge left t s ≡ true)
         go none e (first-none f) =
             let w = stuck .waits t l in
             absurd (clash (predecessor edge left t (w .0)) (w .1) (f (w .0) (low (w .0) (predecessor-left edge left t (w .0) (w .1)))))
         go (some s) e (first-some m q f) = (s, e, q)
 
-    -- "the walk comes round within as many steps as there are members"
+    -- the walk, from any path on: where it would go on for longer than there are members, somebody comes twice
     pub walk-cycle : Below n left → Stuck edge left → (m t : ℕ) (tail : List ℕ) → Path left (t ∷ tail)
         → count-below n left < m + length (t ∷ tail) → Cycle edge left (walk (lowest-predecessor n edge left) m t (t ∷ tail))
     walk-cycle low stuck zero t tail p c = absurd (omega (arith, c, pigeonhole n left (t ∷ tail) (p .0) (λ u a. (low u (p .1 u a), p .1 u a))))

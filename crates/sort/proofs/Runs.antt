@@ -1,9 +1,9 @@
 -- While the line is made, what is still to be placed and written is what the rule places from those left. Assumes nothing.
-use Prim.Native.Nat.{ℕ, zero, suc, _+_, _-_, _<_, _≤_}
+use Prim.Native.Nat.{ℕ, suc, _+_, _-_, _≤_}
 use native.Mathlib.Omega.{arith}
 use native.Mathlib.Numerals.{add-one}
 use mathlib.Core.Path.{_≡_, refl, sym, _∙_, ap, subst, fun-ext}
-use mathlib.Core.Bool.{Bool, true, _&&_, not}
+use mathlib.Core.Bool.{Bool, _&&_, not}
 use mathlib.Core.List.{List, [], _∷_}
 use mathlib.Core.Option.{none, some}
 use lib.Dec.{eqb}
@@ -14,7 +14,7 @@ use Rattle.sets.specs.Search.{count-below}
 use Rattle.sets.proofs.Counts.{count-low, count-some}
 use Rattle.sort.specs.Rule.{without, next, placed, rest}
 use Rattle.sort.proofs.Chosen.{without-said, one-fewer, next-is}
-use Rattle.sort.proofs.Placing.{placed-none, placed-some, rest-none, rest-some}
+use Rattle.sort.proofs.Clauses.{placed-none, placed-some, rest-none, rest-some}
 
 -- a set with one taken out, as the rule has it
 pub taken : (left fewer t : ℕ) → ((s : ℕ) → has fewer s ≡ (has left s && not (eqb t s))) → has fewer ≡ without (has left) t
@@ -41,14 +41,14 @@ module _ (edge : ℕ → ℕ → Bool) (all : ℕ → Bool) (blank : List ℕ) w
     place-one more t fewer w e q = subst (λ (f : ℕ → Bool). ToPlace (set line count t) f (count + 1) more) (sym q) placed-one
       where
         on : placed numbers edge (suc more) left ≡ t ∷ placed numbers edge more (without left t)
-        on = placed-some edge numbers more left t e
+        on = placed-some numbers edge more left t e
 
         placed-one : ToPlace (set line count t) (without left t) (count + 1) more
         placed-one =
             let r = next-is edge numbers left t e in
             record {
               enough = omega (arith, w .enough, one-fewer left t numbers (r .0) (r .1));
-              same-rest = sym (rest-some edge numbers more left t e) ∙ w .same-rest;
+              same-rest = sym (rest-some numbers edge more left t e) ∙ w .same-rest;
               same-line =
                   ap (λ (k : ℕ). sets (set line count t) k (placed numbers edge more (without left t))) (add-one count)
                   ∙ sym (ap (sets line count) on)
@@ -59,7 +59,7 @@ module _ (edge : ℕ → ℕ → Bool) (all : ℕ → Bool) (blank : List ℕ) w
     -- nobody is ready: all is done
     module _ (more : ℕ) (w : ToPlace line left count more) (e : next numbers edge left ≡ none) where
       nothing : placed numbers edge more left ≡ []
-      nothing = placed-none edge numbers more left e
+      nothing = placed-none numbers edge more left e
 
       pub done-count : count ≡ length (placed numbers edge numbers all)
       done-count = omega (arith, w .same-count, ap length nothing)
@@ -68,4 +68,4 @@ module _ (edge : ℕ → ℕ → Bool) (all : ℕ → Bool) (blank : List ℕ) w
       done-line = sym (ap (sets line count) nothing) ∙ w .same-line
 
       pub done-rest : left ≡ rest numbers edge numbers all
-      done-rest = sym (rest-none edge numbers more left e) ∙ w .same-rest
+      done-rest = sym (rest-none numbers edge more left e) ∙ w .same-rest

@@ -1,24 +1,24 @@
 -- What the rule gives, over any edges and any set of numbers below n: the smallest line, or a cycle where there is no line. So a line
 -- exists exactly where there is no cycle, and exactly where the rule gives one. Assumes nothing.
-use Prim.Native.Nat.{ℕ, zero, suc, _+_, _<_, _≤_}
+use Prim.Native.Nat.{ℕ, _+_, _≤_}
 use native.Mathlib.Omega.{arith}
 use mathlib.Core.Path.{_≡_, refl, sym, _∙_, ap, subst}
 use mathlib.Core.Bool.{Bool, true, false}
-use mathlib.Core.Logic.{_⊎_, inl, inr, ⊎-elim, _↔_}
+use mathlib.Core.Logic.{_⊎_, ⊎-elim, _↔_}
 use mathlib.Core.List.{List, [], _∷_, _++_}
-use mathlib.Core.Option.{Option, none, some, Option·elim}
-use lib.ListN.{length, take, drop, getD}
-use lib.Seq.{drop-cons}
+use mathlib.Core.Option.{Option, none, some}
+use lib.ListN.{take}
 use Rattle.sets.specs.Search.{first-below, count-below}
-use Rattle.sets.specs.Paths.{Precedes, Acyclic}
-use Rattle.sets.proofs.Truth.{clash, either}
-use Rattle.sets.proofs.Searches.{None, First, first-none, first-some, first-view, some-found}
+use Rattle.sets.specs.Paths.{Acyclic}
+use Rattle.sets.proofs.Truth.{clash, refuted}
+use Rattle.sets.proofs.Searches.{None, First, first-none, first-some, first-view}
 use Rattle.sets.proofs.Counts.{count-low}
-use Rattle.sort.specs.Rule.{among, next, placed, rest, lowest-predecessor, walk, cycle-from, sorted, LineOrCycle, line, cycle}
-use Rattle.sort.specs.Lines.{NoneTwice, edge-within, Below, Line, SmallestLine, Linked, Cycle, FromLowest, Stuck, Means}
-use Rattle.sort.proofs.Lists.{among-nil, among-cases, among-later, place-low, place-entry, pigeonhole}
-use Rattle.sort.proofs.Chosen.{next-none, within-more, ready-free, waiting}
-use Rattle.sort.proofs.Placing.{Steps, steps-line, line-steps, line-acyclic, no-line, rest-within, rest-ends, placed-steps, placed-smallest}
+use Rattle.sort.specs.Rule.{among, next, placed, rest, lowest-predecessor, walk, to-lowest, sorted, LineOrCycle, line, cycle}
+use Rattle.sort.specs.Lines.{edge-within, Below, Line, SmallestLine, Cycle, FromLowest, Stuck, Means}
+use Rattle.sort.proofs.Lists.{among-nil, among-cases, pigeonhole}
+use Rattle.sort.proofs.Chosen.{next-none, within-more, waiting}
+use Rattle.sort.proofs.Clauses.{sorted-line, sorted-cycle}
+use Rattle.sort.proofs.Placing.{steps-line, line-steps, line-acyclic, no-line, rest-within, rest-ends, placed-steps, placed-smallest}
 use Rattle.sort.proofs.Rings.{cycle-precedes, linked-more, from-lowest, to-lowest-cycle, walk-cycle}
 
 -- a cycle among those left is one of the set
@@ -39,10 +39,10 @@ module _ (n : ℕ) (edge : ℕ → ℕ → Bool) where
 
   -- the cycle that is found from t
   module _ (left : ℕ → Bool) (low : Below n left) (stuck : Stuck edge left) (t : ℕ) (l : left t ≡ true) where
-    ring : List ℕ
+    abbrev ring : List ℕ
     ring = walk (lowest-predecessor n edge left) n t (t ∷ [])
 
-    -- as many steps as there are members are enough, and n of them are no fewer
+    -- THEOREM: "the walk comes round within as many steps as there are members"
     pub walk-comes-round : (m : ℕ) → count-below n left ≤ m → Cycle edge left (walk (lowest-predecessor n edge left) m t (t ∷ []))
     walk-comes-round m c =
         walk-cycle edge n left low stuck m t []
@@ -50,15 +50,12 @@ module _ (n : ℕ) (edge : ℕ → ℕ → Bool) where
         (omega (arith, c))
 
     ring-cycle : Cycle edge left ring
-    unfolding ring
     ring-cycle = walk-comes-round n (count-low left n)
 
-    pub found-cycle : Cycle edge left (cycle-from n edge left t)
-    unfolding ring cycle-from
+    found-cycle : Cycle edge left (to-lowest ring)
     found-cycle = to-lowest-cycle edge left ring ring-cycle
 
-    pub found-lowest : FromLowest (cycle-from n edge left t)
-    unfolding ring cycle-from
+    found-lowest : FromLowest (to-lowest ring)
     found-lowest = from-lowest ring (omega (arith, ring-cycle .at-least-two))
 
   module _ (set : ℕ → Bool) (low : Below n set) where
@@ -77,40 +74,37 @@ module _ (n : ℕ) (edge : ℕ → ℕ → Bool) where
       smallest = λ ys l. placed-smallest edge n n set ys (line-steps edge n set ys l);
     }
       where
-        out : (t : ℕ) (b : Bool) → rest n edge n set t ≡ b → b ≡ false
-        out t true h = absurd (clash (rest n edge n set t) h (f t (low t (rest-within edge n n set t h))))
-        out t false h = refl
-
         gone : (t : ℕ) → rest n edge n set t ≡ false
-        gone t = out t (rest n edge n set t) refl
+        gone t = refuted (rest n edge n set t) (λ h. clash (rest n edge n set t) h (f t (low t (rest-within edge n n set t h))))
 
     -- somebody is left
     left-stuck : (t : ℕ) → left-over t ≡ true → Stuck edge left-over
     unfolding left-over
     left-stuck t l = none-next-stuck left-over t l low-left (rest-ends edge n n set (count-low set n))
 
-    cycle-means : (t : ℕ) → left-over t ≡ true → Means n edge set (cycle (cycle-from n edge left-over t))
+    cycle-means : (t : ℕ) → left-over t ≡ true → Means n edge set (cycle (to-lowest (walk (lowest-predecessor n edge left-over) n t (t ∷ []))))
     unfolding left-over
     cycle-means t l =
         let stuck = left-stuck t l in
         let within = rest-within edge n n set in
-        let c = cycle-more edge left-over set within (cycle-from n edge left-over t) (found-cycle left-over low-left stuck t l) in (
+        let xs = to-lowest (ring left-over low-left stuck t l) in
+        let c = cycle-more edge left-over set within xs (found-cycle left-over low-left stuck t l) in (
           c,
           found-lowest left-over low-left stuck t l,
-          omega (arith, pigeonhole n set (cycle-from n edge left-over t) (c .none-twice) (λ u a. (low u (c .members u a), c .members u a)), count-low set n),
+          omega (arith, pigeonhole n set xs (c .none-twice) (λ u a. (low u (c .members u a), c .members u a)), count-low set n),
           no-line edge set left-over stuck within,
         )
 
-    -- the rule's answer is what was asked for
+    -- THEOREM: the rule's line is the smallest line; where it gives a cycle, it is one, and there is no line
     pub sorted-means : Means n edge set (sorted n edge set)
-    unfolding sorted Option·elim left-over
+    unfolding left-over
     sorted-means = go (first-below n left-over) (first-view left-over n)
       where
-        go : (o : Option ℕ) → First left-over n o → Means n edge set (Option·elim o (line (placed n edge n set)) (λ t. cycle (cycle-from n edge (rest n edge n set) t)))
-        go none (first-none f) = all-placed f
-        go (some t) (first-some l h f) = cycle-means t h
+        go : (o : Option ℕ) → First left-over n o → Means n edge set (sorted n edge set)
+        go none (first-none f) = subst (Means n edge set) (sym (sorted-line n edge set f)) (all-placed f)
+        go (some t) (first-some l h f) = subst (Means n edge set) (sym (sorted-cycle n edge set t l f h)) (cycle-means t h)
 
-    -- a line that keeps every edge exists exactly where the rule gives one,
+    -- THEOREM: a line that keeps every edge exists exactly where the rule gives one ..
     pub line-where-given : ((xs : List ℕ) × Line edge set xs) ↔ ((xs : List ℕ) × (sorted n edge set ≡ line xs))
     line-where-given = (λ w. given (w .0) (w .1) (sorted n edge set) refl sorted-means, λ w. (w .0, shown (w .0) (sorted n edge set) sorted-means (w .1)))
       where
@@ -121,7 +115,7 @@ module _ (n : ℕ) (edge : ℕ → ℕ → Bool) where
         shown : (xs : List ℕ) (o : LineOrCycle (List ℕ)) → Means n edge set o → o ≡ line xs → Line edge set xs
         shown xs o w e = subst (Means n edge set) e w .is-line
 
-    -- exactly where there is no cycle, as the chapter says it,
+    -- THEOREM: .. exactly where nothing precedes itself ..
     pub line-where-acyclic : ((xs : List ℕ) × Line edge set xs) ↔ Acyclic (edge-within edge set)
     line-where-acyclic = (λ w. line-acyclic edge set (w .0) (w .1), λ a. go a (sorted n edge set) sorted-means)
       where
@@ -130,7 +124,7 @@ module _ (n : ℕ) (edge : ℕ → ℕ → Bool) where
         go a (cycle []) w = absurd (omega (arith, w .0 .at-least-two))
         go a (cycle (x ∷ xs)) w = absurd (a x (cycle-precedes edge set x xs (w .0)))
 
-    -- and exactly where no members stand in a ring
+    -- THEOREM: .. and exactly where no members stand in a ring
     pub line-where-no-ring : ((xs : List ℕ) × Line edge set xs) ↔ ((xs : List ℕ) → Cycle edge set xs → ⊥)
     line-where-no-ring = (λ w. without-ring (w .0) (w .1), λ f. go f (sorted n edge set) sorted-means)
       where

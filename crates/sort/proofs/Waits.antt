@@ -1,33 +1,28 @@
 -- The search for the ready one keeps, for each transaction, a predecessor that is left, and none below it is. So whoever has been tried in
 -- vain waits for the lowest of his predecessors; and whoever comes to the end of the numbers is ready. Assumes nothing.
-use Prim.Native.Nat.{ℕ, zero, suc, _+_, _<_, _≤_}
+use Prim.Native.Nat.{ℕ, _+_, _<_}
 use native.Mathlib.Omega.{arith}
 use native.Mathlib.Decide.{ℕ-discrete, decLt}
 use mathlib.Core.Path.{_≡_, refl, sym, _∙_, ap, subst}
 use mathlib.Core.Bool.{Bool, true, false, _&&_, not}
 use mathlib.Core.List.{List}
-use mathlib.Core.Option.{Option, none, some}
+use mathlib.Core.Option.{none, some}
 use lib.Dec.{eqb}
-use lib.ListN.{length, getD, set, replicate, length-set}
+use lib.ListN.{length, getD, set, length-set}
 use lib.Seq.{getD-set-same, getD-set-other}
 use Rattle.sets.specs.Bits.{numbers}
-use Rattle.sets.specs.Search.{first-below, first-from}
-use Rattle.sets.proofs.Truth.{clash, and-true, and-nothing}
-use Rattle.sets.proofs.Searches.{First, first-some, first-found, first-hit}
+use Rattle.sets.specs.Search.{first-from}
+use Rattle.sets.proofs.Truth.{clash, refuted, and-true, and-nothing}
 use Rattle.sets.proofs.From.{FirstFrom, first-from-view}
-use Rattle.sort.specs.Rule.{predecessor, without, ready, next, lowest-predecessor}
-use Rattle.sort.specs.Lines.{Below}
-use Rattle.sort.specs.Kept.{Kept, Passed, Blocked}
-use Rattle.sort.proofs.Chosen.{is-ready, not-ready-out, not-ready-waits, none-next, is-predecessor, predecessor-left, predecessor-other, predecessor-edge}
+use Rattle.sort.specs.Rule.{predecessor, ready, next, lowest-predecessor}
+use Rattle.sort.specs.Kept.{Kept, Passed}
+use Rattle.sort.proofs.Chosen.{is-ready, not-ready-out, not-ready-waits, next-hit, none-next, lowest-hit, lowest-is}
+use Rattle.sort.proofs.Chosen.{predecessor-said, is-predecessor, not-predecessor, predecessor-left, predecessor-other}
+use Rattle.sort.proofs.Chosen.{predecessor-edge}
 
 -- what a search from k on found
 pub found-from : (p : ℕ → Bool) (k r : ℕ) → r ≡ first-from k numbers p → FirstFrom p k numbers r
 found-from p k r e = subst (FirstFrom p k numbers) (sym e) (first-from-view p k numbers)
-
--- a predecessor is left
-out-no-predecessor : (edge : ℕ → ℕ → Bool) (left : ℕ → Bool) (t s : ℕ) → left s ≡ false → predecessor edge left t s ≡ false
-unfolding predecessor
-out-no-predecessor edge left t s f = rw f refl
 
 module _ (edge : ℕ → ℕ → Bool) (left : ℕ → Bool) where
   -- none of t's predecessors below k is left
@@ -44,29 +39,24 @@ module _ (edge : ℕ → ℕ → Bool) (left : ℕ → Bool) where
     where
       go : Dec (s < k) → predecessor edge left t s ≡ false
       go (yes m) = f s m
-      go (no m) = out-no-predecessor edge left t s (w .none-before s (omega (arith, m)) l)
+      go (no m) = not-predecessor edge left t s (w .none-before s (omega (arith, m)) l)
 
   -- and past one that has no edge to t
   pub free-past : (t s : ℕ) → Free t s → (not (eqb s t) && edge s t) ≡ false → Free t (s + 1)
-  unfolding predecessor
   free-past t s f e u l = go (ℕ-discrete u s)
     where
       go : Dec (u ≡ s) → predecessor edge left t u ≡ false
-      go (yes q) = rw (q, e) (and-nothing (left s))
+      go (yes q) = rw q (sym (predecessor-said edge left t s) ∙ ap (λ (b : Bool). left s && b) e ∙ and-nothing (left s))
       go (no q) = f u (omega (arith, l, q))
 
   -- the first that has one is the lowest predecessor
   pub lowest-found : (t s : ℕ) → Free t s → s < numbers → left s ≡ true → (not (eqb s t) && edge s t) ≡ true → lowest-predecessor numbers edge left t ≡ some s
-  unfolding lowest-predecessor predecessor
-  lowest-found t s f l h e = first-hit (predecessor edge left t) numbers s l f (and-true (left s) (not (eqb s t) && edge s t) h e)
+  lowest-found t s f l h e =
+      lowest-hit edge numbers left t s l f (sym (predecessor-said edge left t s) ∙ and-true (left s) (not (eqb s t) && edge s t) h e)
 
   -- whoever has a lowest predecessor is not ready
   waits-not-ready : (t s : ℕ) → lowest-predecessor numbers edge left t ≡ some s → ready numbers edge left t ≡ false
-  unfolding lowest-predecessor
-  waits-not-ready t s e = go (first-found (predecessor edge left t) numbers e)
-    where
-      go : First (predecessor edge left t) numbers (some s) → ready numbers edge left t ≡ false
-      go (first-some l h f) = not-ready-waits edge numbers left t s l h
+  waits-not-ready t s e = let w = lowest-is edge numbers left t s e in not-ready-waits edge numbers left t s (w .0) (w .1)
 
   tried-not-ready : (waits : List ℕ) (k t : ℕ) → Tried waits k → t < k → ready numbers edge left t ≡ false
   tried-not-ready waits k t w l = go (left t) refl
@@ -85,8 +75,7 @@ module _ (edge : ℕ → ℕ → Bool) (left : ℕ → Bool) where
 
   -- the answers of the search
   pub ready-found : (waits : List ℕ) (t : ℕ) → Tried waits t → t < numbers → left t ≡ true → Free t numbers → next numbers edge left ≡ some t
-  unfolding next
-  ready-found waits t w l h f = first-hit (ready numbers edge left) numbers t l (λ u m. tried-not-ready waits t u w m) (is-ready edge numbers left t h f)
+  ready-found waits t w l h f = next-hit edge numbers left t l (λ u m. tried-not-ready waits t u w m) (is-ready edge numbers left t h f)
 
   pub none-found : (waits : List ℕ) → Tried waits numbers → next numbers edge left ≡ none
   none-found waits w = none-next edge numbers left (λ t l. tried-not-ready waits numbers t w l)
@@ -128,12 +117,9 @@ module _ (waits : List ℕ) (blank : (t : ℕ) → _≡_ {A = ℕ} (getD waits t
 -- those left become fewer
 pub passed-fewer : (edge : ℕ → ℕ → Bool) (left fewer : ℕ → Bool) (waits : List ℕ) → ((s : ℕ) → fewer s ≡ true → left s ≡ true)
     → Passed edge left waits → Passed edge fewer waits
-passed-fewer edge left fewer waits m p t s l = go (predecessor edge fewer t s) refl
-  where
-    go : (b : Bool) → predecessor edge fewer t s ≡ b → b ≡ false
-    go true h =
-        absurd
-        (clash (predecessor edge left t s)
-        (is-predecessor edge left t s (m s (predecessor-left edge fewer t s h)) (predecessor-other edge fewer t s h) (predecessor-edge edge fewer t s h))
-        (p t s l))
-    go false h = refl
+passed-fewer edge left fewer waits m p t s l =
+    refuted (predecessor edge fewer t s)
+    (λ h.
+    clash (predecessor edge left t s)
+    (is-predecessor edge left t s (m s (predecessor-left edge fewer t s h)) (predecessor-other edge fewer t s h) (predecessor-edge edge fewer t s h))
+    (p t s l))

@@ -1,12 +1,12 @@
 -- While the sort walks back, the path at the end of the buffer is the rule's path, and what is still to come is the rule's walk. Nobody is
 -- on it twice, so it never outgrows the buffer. Assumes nothing.
-use Prim.Native.Nat.{ℕ, zero, suc, _+_, _-_, _<_, _≤_}
+use Prim.Native.Nat.{ℕ, suc, _-_, _<_, _≤_}
 use native.Mathlib.Omega.{arith}
-use mathlib.Core.Path.{_≡_, refl, sym, _∙_, ap, subst}
+use mathlib.Core.Path.{_≡_, refl, sym, _∙_, ap}
 use mathlib.Core.Bool.{Bool, true, false, _||_}
 use mathlib.Core.Logic.{⊎-elim}
 use mathlib.Core.List.{List, [], _∷_}
-use mathlib.Core.Option.{Option, some}
+use mathlib.Core.Option.{some}
 use lib.Dec.{eqb}
 use lib.ListN.{length, take, drop, getD, set, length-set, length-drop, drop-of-length-le}
 use lib.Seq.{drop-cons, drop-set-lt, getD-set-same}
@@ -14,11 +14,11 @@ use Rattle.sets.specs.Bits.{numbers, has}
 use Rattle.sets.proofs.Truth.{clash, or-swap, or-nothing}
 use Rattle.sets.proofs.Members.{has-zero}
 use Rattle.sets.proofs.Counts.{count-low}
-use Rattle.sort.specs.Rule.{among, place-of, walk, lowest-predecessor}
+use Rattle.sort.specs.Rule.{among, place-of, walk}
 use Rattle.sort.specs.Lines.{NoneTwice}
-use Rattle.sort.specs.Kept.{Kept, Blocked, back}
+use Rattle.sort.specs.Kept.{Kept, back}
 use Rattle.sort.proofs.Lists.{among-nil, among-cons, among-cases, pigeonhole}
-use Rattle.sort.proofs.Rings.{walk-ends, walk-goes}
+use Rattle.sort.proofs.Clauses.{walk-ends, walk-goes}
 
 -- a buffer with one put before the path
 front : (path : List ℕ) (at t : ℕ) → length path ≡ numbers → at < numbers → drop at (set path at t) ≡ t ∷ drop (suc at) path

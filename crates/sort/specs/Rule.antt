@@ -33,7 +33,7 @@ lowest (x ∷ []) = x
 lowest (x ∷ y ∷ ys) = min x (lowest (y ∷ ys))
 
 -- the list from place k on, and then what stands before that place
-unfoldable pub turned : ℕ → List ℕ → List ℕ
+abbrev pub turned : ℕ → List ℕ → List ℕ
 turned k xs = drop k xs ++ take k xs
 
 -- the list turned so that it starts with its lowest number

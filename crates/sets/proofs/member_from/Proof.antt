@@ -3,7 +3,7 @@ use borrow.Author.Needs.{needs}
 use native.Mathlib.Omega.{arith}
 use mathlib.Core.Path.{sym}
 use Prim.Native.Nat.{_/_, _^_}
-use lib.Count.{trailingZeros, trailing-le}
+use lib.Count.{trailing-le}
 use Rattle.sets.proofs.Lowest.{lowest-from, none-from, none-past}
 use Rattle.sets.proofs.member_from.Statement.{statement}
 use Rattle.sets.proofs.member_from.Tie as tie

@@ -1,5 +1,4 @@
 -- `sort::part::place_of` meets its contract. The invariant: the place is k or further on. Assumes nothing.
-use borrow.Author.Needs.{needs}
 use native.Mathlib.Omega.{arith}
 use Prim.Native.Nat.{_+_, _-_, _<_, _≤_}
 use lib.ListN.{drop}

@@ -1,5 +1,4 @@
 -- `sort::part::write_part` meets its contract. The invariant: the part up to k has been written. Assumes nothing.
-use borrow.Author.Needs.{needs}
 use native.Mathlib.Omega.{arith}
 use mathlib.Core.Path.{_≡_, _∙_, ap}
 use mathlib.Core.List.{List}

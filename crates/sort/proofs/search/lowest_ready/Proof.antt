@@ -13,8 +13,9 @@ use denote.Ref.{now}
 use Rattle.sets.specs.Bits.{numbers, has, in-row}
 use Rattle.sets.proofs.Members.{has-low}
 use Rattle.sets.proofs.From.{FirstFrom}
-use Rattle.sort.specs.Kept.{Kept, Passed, Blocked}
-use Rattle.sort.proofs.Waits.{found-from, Free, Tried, free-on, free-past, lowest-found, tried-on, ready-found, none-found, kept-store, passed-store, tried-store}
+use Rattle.sort.specs.Kept.{Kept, Passed}
+use Rattle.sort.proofs.Waits.{found-from, Free, Tried, free-on, free-past, lowest-found, tried-on, ready-found, none-found}
+use Rattle.sort.proofs.Waits.{kept-store, passed-store, tried-store}
 use Rattle.sort.proofs.search.lowest_ready.Statement.{statement}
 use Rattle.sort.proofs.search.lowest_ready.Tie as tie
 

@@ -1,0 +1,66 @@
+-- The promise of the sort determines its answer and the buffer that was lent; and what is promised means, of every table and every set,
+-- the smallest line or a cycle where there is none. Assumes nothing.
+use Prim.Native.Nat.{ℕ, _+_, _<_, _≤_, _^_}
+use native.Mathlib.Omega.{arith}
+use native.Mathlib.Nat.{zero-add}
+use mathlib.Core.Path.{_≡_, sym, _∙_, ap}
+use mathlib.Core.List.{List, _++_}
+use lib.ListN.{length, drop}
+use lib.Seq.{sets, sets-eq}
+use Rattle.sets.specs.Bits.{numbers, has, in-row}
+use Rattle.sets.proofs.Members.{has-low}
+use Rattle.sets.proofs.Counts.{count-low}
+use Rattle.sort.specs.Rule.{LineOrCycle, line, cycle, sorted, members-of, length-of}
+use Rattle.sort.specs.Lines.{Below, Means}
+use Rattle.sort.specs.Numbers.{sorted-says}
+use Rattle.sort.specs.declared.order.Sorted.{Sorted}
+use Rattle.sort.specs.declared.order.Sorted.the-variants.{Line, Cycle}
+use Rattle.sort.proofs.Placing.{line-length}
+use Rattle.sort.proofs.Sorts.{sorted-means}
+
+-- the number of a line or a cycle, and which of the two it is
+abbrev count-of : LineOrCycle ℕ → ℕ
+count-of (line n) = n
+count-of (cycle n) = n
+
+abbrev kind-of : LineOrCycle ℕ → ℕ
+kind-of (line n) = 0
+kind-of (cycle n) = 1
+
+differ : (a b : LineOrCycle ℕ) → (kind-of a ≡ kind-of b → ⊥) → a ≡ b → ⊥
+differ a b q e = q (ap kind-of e)
+
+pub same-sorted : (a b : Sorted) → sorted-says a ≡ sorted-says b → a ≡ b
+same-sorted (Line m) (Line n) e = ap Line (ap count-of e)
+same-sorted (Line m) (Cycle n) e = absurd (differ (line m) (cycle n) (λ z. omega (arith, z)) e)
+same-sorted (Cycle m) (Line n) e = absurd (differ (cycle m) (line n) (λ z. omega (arith, z)) e)
+same-sorted (Cycle m) (Cycle n) e = ap Cycle (ap count-of e)
+
+-- The premises below are the promises of src/order.rt, word for word.
+-- THEOREM: any two answers that `sort` promises for a table, a set and a buffer are equal, and so are the buffers left
+pub sort-determined : (table : List ℕ) (set : ℕ) (old : List ℕ) (a b : Sorted) (left right : List ℕ)
+    → sorted-says a ≡ length-of (sorted numbers (in-row table) (has set)) → left ≡ sets old 0 (members-of (sorted numbers (in-row table) (has set)))
+    → sorted-says b ≡ length-of (sorted numbers (in-row table) (has set)) → right ≡ sets old 0 (members-of (sorted numbers (in-row table) (has set)))
+    → (a ≡ b) × (left ≡ right)
+sort-determined table set old a b left right p q r s = (same-sorted a b (p ∙ sym r), q ∙ sym s)
+
+-- what the machine's 64 bits can say
+module _ (table : List ℕ) (set : ℕ) (fits : set < 2 ^ numbers) where
+  low : Below numbers (has set)
+  low t h = has-low set numbers t fits h
+
+  -- THEOREM: what `sort` promises for a table and a set is the smallest line, or a cycle where there is no line
+  pub sort-means : Means numbers (in-row table) (has set) (sorted numbers (in-row table) (has set))
+  sort-means = sorted-means numbers (in-row table) (has set) low
+
+  members-fit : (o : LineOrCycle (List ℕ)) → Means numbers (in-row table) (has set) o → length (members-of o) ≤ numbers
+  members-fit (line xs) w = omega (arith, line-length (in-row table) numbers (has set) xs low (w .is-line), count-low (has set) numbers)
+  members-fit (cycle xs) w = w .2
+
+  -- THEOREM: it fits the buffer, so that the members stand in its front, and behind them is what was there
+  pub sort-written : (old : List ℕ) → length old ≡ numbers
+      → let xs = members-of (sorted numbers (in-row table) (has set)) in sets old 0 xs ≡ xs ++ drop (length xs) old
+  sort-written old w =
+      let xs = members-of (sorted numbers (in-row table) (has set)) in
+      sets-eq xs old 0 (omega (arith, w, members-fit (sorted numbers (in-row table) (has set)) sort-means))
+      ∙ ap (λ (k : ℕ). xs ++ drop k old) (zero-add (length xs))
