@@ -9,7 +9,7 @@ use Rattle.sets.proofs.member_from.Statement.{statement}
 use Rattle.sets.proofs.member_from.Tie as tie
 
 returns : tie.Need-returns
-returns c = let a = c .before .args in sym (none-past (a .set) (a .from) 64 (c .if1 .taken))
+returns c = let a = c .before .args in sym (none-past (a .set) (a .from) 64 (omega (arith, c .if1 .taken)))
 
 shr-above : tie.Need-shr-above
 shr-above c = search needs

@@ -65,7 +65,7 @@ module _ (c : tie.After-place-of-lowest) where
 write-part-requires : tie.Need-write-part-requires
 write-part-requires c κs =
     let l = c .before .before in
-    (w (f l) .walk-back .ensures .0, ((omega (arith, to l), omega (arith, inside (f l))), omega (arith, inside (f l))))
+    (w (f l) .walk-back .ensures .0, ((omega (arith, to l, inside (f l)), omega (arith, inside (f l))), omega (arith, inside (f l))))
 
 sub-write-part : tie.Need-sub-write-part
 sub-write-part c = let l = c .before .before .before .before .before in omega (arith, to l)

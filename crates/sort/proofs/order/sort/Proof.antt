@@ -67,7 +67,7 @@ module _ (c : tie.After-member-from) where
   fits = rw counted (line-fits edge set)
 
 write-part-requires : tie.Need-write-part-requires
-write-part-requires c κs = let m = c .before .before .before in (buffer-whole m, ((omega arith, fits m), omega (arith, fits m)))
+write-part-requires c κs = let m = c .before .before .before in (buffer-whole m, ((omega arith, omega (arith, fits m)), omega (arith, fits m)))
 
 returns : tie.Need-returns
 returns c =
