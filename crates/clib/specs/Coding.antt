@@ -2,8 +2,8 @@
 -- line or a cycle.
 use Prim.Native.Nat.{ℕ}
 use mathlib.Core.Option.{Option, none, some}
-use Rattle.log.specs.Answer.{Answer, gives, refused}
-use Rattle.log.specs.Record.{transactions}
+use Rattle.format.specs.Answer.{Answer, gives, refused}
+use Rattle.format.specs.Record.{transactions}
 use Rattle.sort.specs.Rule.{LineOrCycle, line, cycle}
 use Rattle.clib.specs.declared.Coded.{Coded}
 use Rattle.clib.specs.declared.CodedOrder.{CodedOrder}

@@ -13,8 +13,8 @@ use lib.Dec.{eqb}
 use borrow.Author.Tests.{eq-eqb, eqb-false, ne-eqb, not-true}
 use Rattle.sets.specs.Paths.{by-edge, edge-then, Acyclic}
 use Rattle.sets.proofs.Truth.{clash, and-left, and-right, or-hit-left, or-hit-right}
-use Rattle.log.specs.Answer.{passed}
-use Rattle.log.specs.Record.{records, transaction, item, copy-of, is-by, is-read, is-write, writes-copy, wrote-item}
+use Rattle.format.specs.Answer.{passed}
+use Rattle.format.specs.Record.{records, transaction, item, copy-of, is-by, is-read, is-write, writes-copy, wrote-item}
 use Rattle.log.specs.Refusal.{check-answer}
 use Rattle.log.specs.Source.{source-record, source}
 use Rattle.log.proofs.Sources.{Sourced, sourced, source-of, source-record-of}

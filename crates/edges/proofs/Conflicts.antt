@@ -9,8 +9,8 @@ use lib.Dec.{eqb}
 use borrow.Author.Tests.{eq-eqb}
 use Rattle.sets.specs.Search.{some-from}
 use Rattle.sets.proofs.Truth.{either, clash, and-always, and-nothing, or-hit-right}
-use Rattle.log.specs.Record.{records, copy-of, is-by, is-read, is-write, writes-copy}
-use Rattle.log.proofs.KindBytes.{read-no-write, writes-copy-of}
+use Rattle.format.specs.Record.{records, copy-of, is-by, is-read, is-write, writes-copy}
+use Rattle.format.proofs.KindBytes.{read-no-write, writes-copy-of}
 use Rattle.edges.specs.Records.{some-after}
 use Rattle.edges.specs.Reasons.{uses-copy, on-same-copy, conflicting, gives-conflict}
 use Rattle.edges.proofs.Records.{after-found}

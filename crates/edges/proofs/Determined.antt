@@ -2,10 +2,10 @@
 use Prim.Native.Nat.{ℕ}
 use mathlib.Core.Path.{_≡_, sym, _∙_, ap}
 use mathlib.Core.List.{List}
-use Rattle.log.specs.Answer.{Answer, gives, refused}
+use Rattle.format.specs.Answer.{Answer, gives, refused}
+use Rattle.format.proofs.Answers.{said-number, said-place}
+use Rattle.format.proofs.Determined.{same-refusal, no-zero}
 use Rattle.log.specs.Refusal.{check-answer}
-use Rattle.log.proofs.Answers.{said-number, said-place}
-use Rattle.log.proofs.Determined.{same-refusal, no-zero}
 use Rattle.edges.specs.Reasons.{edge-answer, edge-table, graph-answer, unless-refused}
 use Rattle.edges.specs.Numbers.{graph-says, edge-says}
 use Rattle.edges.specs.declared.graph.Graph.{Graph}

@@ -7,7 +7,7 @@ use mathlib.Core.Bool.{true, false}
 use mathlib.Core.Option.{Option, none, some}
 use mathlib.Core.Logic.{_⊎_, ⊎-elim}
 use Rattle.sets.proofs.Truth.{either, clash}
-use Rattle.log.specs.Record.{transaction, item, is-write}
+use Rattle.format.specs.Record.{transaction, item, is-write}
 use Rattle.log.specs.Source.{source-record, source}
 use Rattle.log.proofs.Sources.{source-of, source-none}
 use Rattle.edges.specs.Order.{writer-after}

@@ -11,8 +11,8 @@ use lib.ListN.{length}
 use Rattle.sets.specs.Bits.{has, Holds}
 use Rattle.sets.proofs.Truth.{either, and-right, and-nothing, or-cases}
 use Rattle.sets.proofs.Tables.{holds-same, row-past, has-all, only-set, holds-table, holds-once}
-use Rattle.log.specs.Answer.{passed}
-use Rattle.log.specs.Record.{transactions, transaction, item, in-log}
+use Rattle.format.specs.Answer.{passed}
+use Rattle.format.specs.Record.{transactions, transaction, item, in-log}
 use Rattle.log.specs.Refusal.{check-answer}
 use Rattle.log.proofs.Passed.{in-log-hit, passed-low}
 use Rattle.edges.specs.Order.{writer-after}

@@ -13,8 +13,8 @@ use Rattle.sets.proofs.From.{from-start, from-end, from-step}
 use Rattle.sets.proofs.Members.{has-zero}
 use Rattle.sets.proofs.Tables.{holds-same}
 use Rattle.sets.proofs.Passes.{all-said}
-use Rattle.log.specs.Answer.{passed}
-use Rattle.log.specs.Record.{items, transaction, records, is-by, is-commit, writes-item, in-log}
+use Rattle.format.specs.Answer.{passed}
+use Rattle.format.specs.Record.{items, transaction, records, is-by, is-commit, writes-item, in-log}
 use Rattle.log.specs.Refusal.{check-answer}
 use Rattle.log.proofs.Passed.{by-is, wrote-item-is, passed-commits, in-log-hit}
 use Rattle.edges.specs.Records.{some-after}

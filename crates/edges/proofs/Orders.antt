@@ -10,8 +10,8 @@ use mathlib.Core.Logic.{_⊎_, inl, inr}
 use lib.Dec.{eqb}
 use borrow.Author.Tests.{ne-eqb, eqb-false, not-true}
 use Rattle.sets.proofs.Truth.{and-true, and-left, and-right}
-use Rattle.log.specs.Answer.{passed}
-use Rattle.log.specs.Record.{records, item, is-by, is-write, is-commit, writes-item, in-log}
+use Rattle.format.specs.Answer.{passed}
+use Rattle.format.specs.Record.{records, item, is-by, is-write, is-commit, writes-item, in-log}
 use Rattle.log.specs.Refusal.{check-answer}
 use Rattle.log.proofs.Passed.{CommitOf, by-same, commit-of, commit-once, passed-commits, in-log-hit, wrote-item-hit, wrote-item-is}
 use Rattle.log.proofs.Passed.{writes-item-found}

@@ -5,8 +5,8 @@ use mathlib.Core.List.{List}
 use borrow.Author.Tests.{le-leb, lt-leb}
 use lib.Dec.{leb}
 use Rattle.sets.proofs.Truth.{or-hit-right}
-use Rattle.log.specs.Answer.{gives, refused, passed}
-use Rattle.log.specs.Record.{transactions}
+use Rattle.format.specs.Answer.{gives, refused, passed}
+use Rattle.format.specs.Record.{transactions}
 use Rattle.log.specs.Refusal.{check-answer}
 use Rattle.edges.specs.Reasons.{reason, edge-answer, members, graph-answer}
 

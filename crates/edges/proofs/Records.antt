@@ -7,7 +7,7 @@ use mathlib.Core.Bool.{Bool, true, _&&_}
 use Rattle.sets.proofs.Truth.{and-true, and-left, and-right}
 use Rattle.sets.proofs.Searches.{some-hit, some-found}
 use Rattle.sets.proofs.From.{from-hit, from-found}
-use Rattle.log.specs.Record.{records, is-by}
+use Rattle.format.specs.Record.{records, is-by}
 use Rattle.edges.specs.Records.{some-of, some-after}
 
 module _ (log : List ℕ) where

@@ -10,7 +10,7 @@ use Rattle.sets.specs.Bits.{has, in-row}
 use Rattle.sets.proofs.Truth.{and-swap, and-nothing}
 use Rattle.sets.proofs.Tables.{holds-same, holds-none}
 use Rattle.sets.proofs.Passes.{none-said, said-more, nothing-said}
-use Rattle.log.specs.Record.{transactions, records, is-by, is-write}
+use Rattle.format.specs.Record.{transactions, records, is-by, is-write}
 use Rattle.edges.specs.Kept.{Empty, LaterSets, LaterRows, AddedOwn, AddedWriter, AddedToRow}
 
 -- a loop that counts down takes one off first

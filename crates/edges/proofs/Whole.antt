@@ -4,7 +4,7 @@ use mathlib.Core.List.{List}
 use mathlib.Core.Bool.{Bool, _&&_}
 use Rattle.sets.specs.Bits.{Holds}
 use Rattle.sets.proofs.Passes.{all-said}
-use Rattle.log.specs.Record.{transactions, records, is-by}
+use Rattle.format.specs.Record.{transactions, records, is-by}
 use Rattle.edges.specs.Records.{some-of}
 use Rattle.edges.specs.Reasons.{gives-conflict, gives-write-order, gives-read-before, conflict, write-order, read-before}
 use Rattle.edges.specs.Kept.{LaterRows}

@@ -8,7 +8,7 @@ use mathlib.Core.Option.{some}
 use mathlib.Core.Logic.{_⊎_}
 use lib.Dec.{eqb}
 use Rattle.sets.specs.Paths.{Precedes}
-use Rattle.log.specs.Record.{records, item, is-by, in-log}
+use Rattle.format.specs.Record.{records, item, is-by, in-log}
 use Rattle.log.specs.Source.{source}
 use Rattle.edges.specs.Order.{writes}
 use Rattle.edges.specs.Reasons.{conflict}

@@ -8,7 +8,7 @@ use lib.Dec.{eqb}
 use lib.ListN.{length}
 use Rattle.sets.specs.Search.{some-from}
 use Rattle.sets.specs.Bits.{has, in-row, Holds}
-use Rattle.log.specs.Record.{transactions, items, sites, records, is-by, is-write, is-commit, writes-item, writes-copy}
+use Rattle.format.specs.Record.{transactions, items, sites, records, is-by, is-write, is-commit, writes-item, writes-copy}
 use Rattle.edges.specs.Order.{writes, commits-earlier}
 use Rattle.edges.specs.Reasons.{uses-copy}
 

@@ -4,7 +4,7 @@ use Prim.Native.Nat.{ℕ}
 use mathlib.Core.List.{List}
 use mathlib.Core.Bool.{Bool, not, _&&_}
 use lib.Dec.{eqb}
-use Rattle.log.specs.Record.{records, is-commit, wrote-item}
+use Rattle.format.specs.Record.{records, is-commit, wrote-item}
 use Rattle.edges.specs.Records.{some-of, some-after}
 
 -- "All writes of one item by one transaction are one Write of that item": t writes the item x

@@ -5,8 +5,8 @@ use mathlib.Core.Bool.{Bool, false, not, _&&_, _||_, cond}
 use mathlib.Core.Option.{Option, none, some}
 use lib.Dec.{eqb, leb}
 use Rattle.sets.specs.Bits.{set-of, table-of}
-use Rattle.log.specs.Answer.{Answer, gives, refused, row, _then_}
-use Rattle.log.specs.Record.{transactions, transaction, item, is-read, is-write, copy-of, in-log}
+use Rattle.format.specs.Answer.{Answer, gives, refused, row, _then_}
+use Rattle.format.specs.Record.{transactions, transaction, item, is-read, is-write, copy-of, in-log}
 use Rattle.log.specs.Refusal.{check-answer}
 use Rattle.log.specs.Source.{source}
 use Rattle.edges.specs.Records.{some-of, some-after}

@@ -3,7 +3,7 @@ use Prim.Native.Nat.{ℕ, _+_}
 use mathlib.Core.List.{List}
 use mathlib.Core.Bool.{Bool, _&&_}
 use Rattle.sets.specs.Search.{some-below, some-from}
-use Rattle.log.specs.Record.{records, is-by}
+use Rattle.format.specs.Record.{records, is-by}
 
 -- some record of transaction t passes the test
 unfoldable pub some-of : List ℕ → ℕ → (ℕ → Bool) → Bool

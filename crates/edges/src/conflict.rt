@@ -2,21 +2,21 @@
 ghost use mathlib.Core.Path.{_≡_};
 ghost use Prim.Native.Nat.{ℕ, _+_};
 ghost use Rattle.sets.specs.Bits.{has, Holds};
-ghost use Rattle.log.specs.Answer.{passed};
-ghost use Rattle.log.specs.Record.{Within, transactions};
+ghost use Rattle.format.specs.Answer.{passed};
+ghost use Rattle.format.specs.Record.{Within, transactions};
 ghost use Rattle.log.specs.Refusal.{check-answer};
 ghost use Rattle.edges.specs.Reasons.{gives-conflict, conflict};
 ghost use Rattle.edges.specs.Kept.{Empty, LaterUsers, LaterWriters};
 use crate::table::add_own;
 use crate::table::add_to_row;
 use crate::table::add_writer;
-use log::record::Copy;
-use log::record::READ;
-use log::record::TRANSACTIONS;
-use log::record::WRITE;
-use log::record::copy_at;
-use log::record::kind_at;
-use log::record::record_count;
+use format::record::Copy;
+use format::record::READ;
+use format::record::TRANSACTIONS;
+use format::record::WRITE;
+use format::record::copy_at;
+use format::record::kind_at;
+use format::record::record_count;
 
 // The transactions with a later record that conflicts with record k: of a read the later writers of its copy, of a write all that
 // use it later.

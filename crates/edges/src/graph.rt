@@ -2,8 +2,8 @@
 ghost use mathlib.Core.Path.{_≡_};
 ghost use Prim.Native.Nat.{_<_};
 ghost use Rattle.sets.specs.Bits.{Holds};
-ghost use Rattle.log.specs.Answer.{passed};
-ghost use Rattle.log.specs.Record.{transactions};
+ghost use Rattle.format.specs.Answer.{passed};
+ghost use Rattle.format.specs.Record.{transactions};
 ghost use Rattle.log.specs.Refusal.{check-answer};
 ghost use Rattle.edges.specs.Reasons.{conflict, write-order, read-before, reason, edge-answer, members, edge-table, graph-answer, unless-refused};
 ghost use Rattle.edges.specs.Numbers.{graph-says, edge-says};
@@ -12,11 +12,11 @@ use crate::order::keep_order;
 use crate::reasons::order_edges;
 use crate::table::joined;
 use crate::table::lowest_reason;
+use format::record::Copy;
+use format::record::TRANSACTIONS;
+use format::refusal::Checked;
+use format::refusal::Refusal;
 use log::check::check;
-use log::record::Copy;
-use log::record::TRANSACTIONS;
-use log::refusal::Checked;
-use log::refusal::Refusal;
 
 // The graph of a log: the set of its transactions, or a refusal. Its edges are in the table that was lent.
 pub enum Graph {

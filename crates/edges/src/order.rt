@@ -2,20 +2,20 @@
 ghost use mathlib.Core.Path.{_≡_};
 ghost use Prim.Native.Nat.{ℕ, _+_, _<_};
 ghost use Rattle.sets.specs.Bits.{has};
-ghost use Rattle.log.specs.Answer.{passed};
-ghost use Rattle.log.specs.Record.{Within, transactions, items, item, in-log};
+ghost use Rattle.format.specs.Answer.{passed};
+ghost use Rattle.format.specs.Record.{Within, transactions, items, item, in-log};
 ghost use Rattle.log.specs.Refusal.{check-answer};
 ghost use Rattle.edges.specs.Order.{writer-after, is-earlier-commit};
 ghost use Rattle.edges.specs.Kept.{Empty, LaterRows, LaterCommits, KeptOrder};
 use crate::table::add_to_row;
 use crate::table::add_writer;
-use log::record::COMMIT;
-use log::record::Copy;
-use log::record::TRANSACTIONS;
-use log::record::item_at;
-use log::record::kind_at;
-use log::record::record_count;
-use log::record::transaction_at;
+use format::record::COMMIT;
+use format::record::Copy;
+use format::record::TRANSACTIONS;
+use format::record::item_at;
+use format::record::kind_at;
+use format::record::record_count;
+use format::record::transaction_at;
 
 // Keeps a commit: all that commit later come after its transaction. For the records before it, its transaction commits later too.
 fn keep_commit(log: &[u8], k: usize, later: u64, after: &mut [u64; TRANSACTIONS]) -> u64

@@ -2,19 +2,19 @@
 ghost use mathlib.Core.Path.{_≡_};
 ghost use Prim.Native.Nat.{ℕ};
 ghost use Rattle.sets.specs.Bits.{has, Holds};
-ghost use Rattle.log.specs.Answer.{passed};
-ghost use Rattle.log.specs.Record.{Within, transactions};
+ghost use Rattle.format.specs.Answer.{passed};
+ghost use Rattle.format.specs.Record.{Within, transactions};
 ghost use Rattle.log.specs.Refusal.{check-answer};
 ghost use Rattle.edges.specs.Reasons.{gives-write-order, gives-read-before, write-order, read-before};
 ghost use Rattle.edges.specs.Kept.{Empty, KeptOrder};
 use crate::order::writers_after;
 use crate::table::add_to_row;
-use log::record::Copy;
-use log::record::TRANSACTIONS;
-use log::record::WRITE;
-use log::record::kind_at;
-use log::record::record_count;
-use log::record::transaction_at;
+use format::record::Copy;
+use format::record::TRANSACTIONS;
+use format::record::WRITE;
+use format::record::kind_at;
+use format::record::record_count;
+use format::record::transaction_at;
 use log::source::Found;
 use log::source::source_record;
 

@@ -4,13 +4,13 @@ ghost use mathlib.Core.Path.{_≡_};
 ghost use Prim.Native.Nat.{_<_};
 ghost use lib.ListN.{length};
 ghost use Rattle.sets.specs.Bits.{Holds};
-ghost use Rattle.log.specs.Record.{Within, transactions};
+ghost use Rattle.format.specs.Record.{Within, transactions};
 ghost use Rattle.edges.specs.Table.{any-reason, lowest-in};
 ghost use Rattle.edges.specs.Kept.{AddedOwn, AddedWriter, AddedToRow};
-use log::record::TRANSACTIONS;
-use log::record::WRITE;
-use log::record::kind_at;
-use log::record::transaction_at;
+use format::record::TRANSACTIONS;
+use format::record::WRITE;
+use format::record::kind_at;
+use format::record::transaction_at;
 
 // The transaction of record k joins the set at c.
 pub(crate) fn add_own(log: &[u8], k: usize, c: usize, table: &mut [u64])

@@ -1,65 +1,21 @@
--- The promises determine the answers: a refusal is known by its number and place, so two answers that say the same are the same.
--- Assumes nothing.
+-- The promises determine the answers of a check and of the question of a source. Assumes nothing.
 use Prim.Native.Nat.{ℕ, suc, _-_}
 use native.Mathlib.Omega.{arith}
-use mathlib.Core.Path.{_≡_, refl, sym, _∙_, ap, ap₂}
-use mathlib.Core.List.{List, [], _∷_}
-use lib.ListN.{getD}
+use mathlib.Core.Path.{_≡_, refl, sym, _∙_, ap}
+use mathlib.Core.List.{List}
 use mathlib.Core.Option.{Option, none, some}
-use Rattle.log.specs.Answer.{Answer, gives, refused}
+use Rattle.format.specs.Answer.{Answer, gives, refused}
+use Rattle.format.specs.Numbers.{checked-says}
+use Rattle.format.specs.declared.refusal.Checked.{Checked}
+use Rattle.format.proofs.Determined.{same-refusal, no-zero, same-checked}
+use Rattle.format.proofs.Answers.{said-number, said-place}
 use Rattle.log.specs.Refusal.{check-answer}
 use Rattle.log.specs.Source.{source-record, source-answer}
-use Rattle.log.specs.Numbers.{number-of, place-of, checked-says, source-says, found-says}
-use Rattle.log.proofs.Answers.{said-number, said-place}
-use Rattle.log.specs.declared.refusal.Refusal.{Refusal}
-use Rattle.log.specs.declared.refusal.Refusal.the-variants.{TooLong, Ragged, ShortBuffer, BadKind, OutOfRange, AfterCommit}
-use Rattle.log.specs.declared.refusal.Refusal.the-variants.{ReadsUnwritten, ReadsPastOwn, NeverCommits, BadQuestion}
-use Rattle.log.specs.declared.refusal.Checked.{Checked}
-use Rattle.log.specs.declared.refusal.Checked.the-variants.{Passed, Refused}
+use Rattle.log.specs.Numbers.{source-says, found-says}
 use Rattle.log.specs.declared.source.Found.{Found}
 use Rattle.log.specs.declared.source.Found.the-variants.{At, None as NoneFound}
 use Rattle.log.specs.declared.source.Source.{Source}
 use Rattle.log.specs.declared.source.Source.the-variants.{Of, None, Refused as SourceRefused}
-
--- the refusal of a number and a place: the cases stand in the order of their numbers
-abbrev refusal-of : ℕ → ℕ → Refusal
-refusal-of n k =
-    getD
-    (TooLong ∷ Ragged ∷ ShortBuffer ∷ BadKind k ∷ OutOfRange k ∷ AfterCommit k ∷ ReadsUnwritten k ∷ ReadsPastOwn k ∷ NeverCommits k ∷ [])
-    (n - 1) BadQuestion
-
-known : (r : Refusal) → refusal-of (number-of r) (place-of r) ≡ r
-known TooLong = refl
-known Ragged = refl
-known ShortBuffer = refl
-known (BadKind k) = refl
-known (OutOfRange k) = refl
-known (AfterCommit k) = refl
-known (ReadsUnwritten k) = refl
-known (ReadsPastOwn k) = refl
-known (NeverCommits k) = refl
-known BadQuestion = refl
-
-pub same-refusal : (r s : Refusal) → number-of r ≡ number-of s → place-of r ≡ place-of s → r ≡ s
-same-refusal r s n p = sym (known r) ∙ ap₂ refusal-of n p ∙ known s
-
-pub no-zero : (r : Refusal) → number-of r ≡ 0 → ⊥
-no-zero TooLong e = omega arith
-no-zero Ragged e = omega arith
-no-zero ShortBuffer e = omega arith
-no-zero (BadKind k) e = omega arith
-no-zero (OutOfRange k) e = omega arith
-no-zero (AfterCommit k) e = omega arith
-no-zero (ReadsUnwritten k) e = omega arith
-no-zero (ReadsPastOwn k) e = omega arith
-no-zero (NeverCommits k) e = omega arith
-no-zero BadQuestion e = omega arith
-
-pub same-checked : (a b : Checked) → checked-says a ≡ checked-says b → a ≡ b
-same-checked Passed Passed e = refl
-same-checked Passed (Refused s) e = absurd (no-zero s (sym (ap said-number e)))
-same-checked (Refused r) Passed e = absurd (no-zero r (ap said-number e))
-same-checked (Refused r) (Refused s) e = ap Refused (same-refusal r s (ap said-number e) (ap said-place e))
 
 -- what a source's answer holds: its transaction and one, or 0 for none
 abbrev said-source : Answer (Option ℕ) → ℕ

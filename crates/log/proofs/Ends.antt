@@ -7,8 +7,8 @@ use mathlib.Core.Option.{Option}
 use lib.ListN.{getD}
 use Rattle.sets.specs.Bits.{has}
 use Rattle.sets.proofs.Searches.{first-hit, first-miss}
-use Rattle.log.specs.Answer.{refused, passed}
-use Rattle.log.specs.Record.{transactions, records, in-log}
+use Rattle.format.specs.Answer.{refused, passed}
+use Rattle.format.specs.Record.{transactions, records, in-log}
 use Rattle.log.specs.Refusal.{never-commits, place-or-zero, first-record, refused-9, end-answer}
 use Rattle.log.specs.Kept.{KeptCommits, KeptNames}
 

@@ -11,8 +11,8 @@ use Rattle.sets.specs.Bits.{has}
 use Rattle.sets.proofs.Truth.{either, and-nothing}
 use Rattle.sets.proofs.Searches.{some-none, none-some}
 use Rattle.sets.proofs.Members.{has-zero, no-member}
-use Rattle.log.specs.Answer.{refused, passed}
-use Rattle.log.specs.Record.{transaction, item, copy-of, is-by, is-read, writes-copy, committed, wrote-copy, wrote-item, written}
+use Rattle.format.specs.Answer.{refused, passed}
+use Rattle.format.specs.Record.{transaction, item, copy-of, is-by, is-read, writes-copy, committed, wrote-copy, wrote-item, written}
 use Rattle.log.specs.Refusal.{after-commit, reads-unwritten, reads-past-own, read-answer, history-answer}
 use Rattle.log.specs.Kept.{KeptCopies, KeptItems, KeptCommits}
 

@@ -4,8 +4,8 @@ use mathlib.Core.Path.{_≡_, refl}
 use mathlib.Core.List.{List}
 use lib.ListN.{length}
 use borrow.Author.Tests.{lt-ltb, le-ltb, eq-eqb, ne-eqb}
-use Rattle.log.specs.Answer.{refused, passed}
-use Rattle.log.specs.Record.{record-bytes, most-bytes}
+use Rattle.format.specs.Answer.{refused, passed}
+use Rattle.format.specs.Record.{record-bytes, most-bytes}
 use Rattle.log.specs.Refusal.{too-long, ragged, length-answer}
 
 module _ (log : List ℕ) where

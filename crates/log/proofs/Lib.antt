@@ -1,9 +1,5 @@
-pub mod Answers
-pub mod KindBytes
-pub mod Forms
 pub mod Steps
 pub mod Histories
-pub mod Ranges
 pub mod Ends
 pub mod Records
 pub mod Lengths

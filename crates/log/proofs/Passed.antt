@@ -14,15 +14,16 @@ use borrow.Author.Tests.{ltb-false, eqb-true, eq-eqb, not-false}
 use Rattle.sets.specs.Search.{some-below, last-below}
 use Rattle.sets.proofs.Truth.{clash, and-true, and-left, and-right, or-cases}
 use Rattle.sets.proofs.Searches.{some-found, some-hit, some-none, Last, last-none, last-view}
-use Rattle.log.specs.Answer.{passed}
-use Rattle.log.specs.Record.{Within, record-bytes, transactions, items, sites, most-records, most-bytes, kind, transaction, item}
-use Rattle.log.specs.Record.{site, records, read-kind, write-kind, commit-kind, is-read, is-write, is-commit, copy-of, is-by}
-use Rattle.log.specs.Record.{named, committed, wrote-copy, wrote-item, written, writes-copy, writes-item, copy-number, in-log}
-use Rattle.log.specs.Refusal.{too-long, ragged, known-kind, in-range, after-commit, reads-unwritten, reads-past-own}
+use Rattle.format.specs.Answer.{passed}
+use Rattle.format.specs.Record.{Within, record-bytes, transactions, items, sites, most-records, most-bytes, kind, transaction, item}
+use Rattle.format.specs.Record.{site, records, read-kind, write-kind, commit-kind, is-read, is-write, is-commit, copy-of, is-by}
+use Rattle.format.specs.Record.{named, committed, wrote-copy, wrote-item, written, writes-copy, writes-item, copy-number, in-log}
+use Rattle.format.specs.Form.{known-kind, in-range}
+use Rattle.format.proofs.Ranges.{within-record}
+use Rattle.log.specs.Refusal.{too-long, ragged, after-commit, reads-unwritten, reads-past-own}
 use Rattle.log.specs.Refusal.{never-commits}
 use Rattle.log.specs.Refusal.{check-answer}
 use Rattle.log.specs.Source.{source-record, source}
-use Rattle.log.proofs.Ranges.{within-record}
 use Rattle.log.proofs.Records.{each-passes}
 use Rattle.log.proofs.Sources.{Sourced, sourced, source-record-of, writes-it}
 use Rattle.log.proofs.Table.{nothing-applies, form-passes, records-pass}

@@ -6,10 +6,12 @@ use mathlib.Core.Path.{_≡_, refl, _∙_}
 use mathlib.Core.List.{List}
 use mathlib.Core.Logic.{⊎-elim}
 use Rattle.sets.proofs.Searches.{below-cases}
-use Rattle.log.specs.Answer.{refused, passed}
-use Rattle.log.specs.Record.{records}
-use Rattle.log.specs.Refusal.{record-answer, records-answer, end-answer, content-answer}
-use Rattle.log.proofs.Answers.{passed-then, refused-then, then-left, then-right}
+use Rattle.format.specs.Answer.{refused, passed}
+use Rattle.format.specs.Record.{Within, records}
+use Rattle.format.specs.Form.{form-at}
+use Rattle.format.proofs.Ranges.{within-record}
+use Rattle.format.proofs.Answers.{passed-then, refused-then, then-left, then-right}
+use Rattle.log.specs.Refusal.{history-answer, record-answer, records-answer, end-answer, content-answer}
 
 module _ (log : List ℕ) where
   pub no-records : records-answer log 0 ≡ passed
@@ -46,3 +48,8 @@ module _ (log : List ℕ) where
   each-passes (suc n) k l h =
       ⊎-elim (λ (m : k < n). each-passes n k m (then-left (records-answer log n) (record-answer log n) h))
       (λ (e : k ≡ n). rw e (then-right (records-answer log n) (record-answer log n) h)) (below-cases n k l)
+
+-- a record that passes is within the limits
+pub within-passed : (log : List ℕ) (k : ℕ) → k < records log → record-answer log k ≡ passed → Within log k
+unfolding record-answer
+within-passed log k l h = within-record log k l (then-left (form-at log k) (history-answer log k) h)

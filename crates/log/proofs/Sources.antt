@@ -9,8 +9,8 @@ use mathlib.Core.Option.{Option, none, some}
 use borrow.Author.Tests.{le-leb, lt-leb}
 use Rattle.sets.specs.Search.{last-below}
 use Rattle.sets.proofs.Searches.{last-hit, last-miss, last-found, Last, last-some}
-use Rattle.log.specs.Answer.{gives, refused, passed}
-use Rattle.log.specs.Record.{transaction, records, is-read, copy-of, writes-copy}
+use Rattle.format.specs.Answer.{gives, refused, passed}
+use Rattle.format.specs.Record.{transaction, records, is-read, copy-of, writes-copy}
 use Rattle.log.specs.Refusal.{check-answer}
 use Rattle.log.specs.Source.{source-record, its-transaction, source, source-answer}
 

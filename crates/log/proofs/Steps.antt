@@ -17,8 +17,8 @@ use Rattle.sets.proofs.Truth.{gained, stayed, clash, and-swap, or-nothing}
 use Rattle.sets.proofs.Searches.{some-more, some-zero, none-some, first-hit, first-stays}
 use Rattle.sets.proofs.Members.{has-zero}
 use Rattle.sets.proofs.Tables.{holds-store, holds-same, holds-none}
-use Rattle.log.specs.Record.{transactions, transaction, is-by, is-commit}
-use Rattle.log.specs.Record.{named, committed}
+use Rattle.format.specs.Record.{transactions, transaction, is-by, is-commit}
+use Rattle.format.specs.Record.{named, committed}
 use Rattle.log.specs.Kept.{KeptWriters, KeptCommits, KeptNames}
 
 module _ (log : List ℕ) (writes : ℕ → ℕ → Bool) (wide k : ℕ) (table : List ℕ) (w : KeptWriters log writes wide k table) where

@@ -9,13 +9,15 @@ use mathlib.Core.Option.{Option, none, some}
 use mathlib.Core.Logic.{_↔_}
 use Rattle.sets.specs.Search.{first-below}
 use Rattle.sets.proofs.Searches.{first-none-below, First, first-some, first-view, first-hit}
-use Rattle.log.specs.Answer.{Answer, passed, row, gives, refused, _then_}
-use Rattle.log.specs.Record.{transactions, kind, transaction, item, site, records}
-use Rattle.log.specs.Refusal.{too-long, ragged, known-kind, form-answer, after-commit, reads-unwritten, reads-past-own}
+use Rattle.format.specs.Answer.{Answer, passed, row, gives, refused, _then_}
+use Rattle.format.specs.Record.{transactions, kind, transaction, item, site, records}
+use Rattle.format.specs.Form.{known-kind, form-answer}
+use Rattle.format.specs.Form.{form-at, in-range-at}
+use Rattle.format.proofs.Answers.{never-both, then-left, then-right, row-fails, said-number, said-place}
+use Rattle.format.proofs.Ranges.{form-known, form-in-range}
+use Rattle.log.specs.Refusal.{too-long, ragged, after-commit, reads-unwritten, reads-past-own}
 use Rattle.log.specs.Refusal.{read-answer, history-answer, record-answer, records-answer, never-commits, first-record, refused-9}
-use Rattle.log.specs.Refusal.{end-answer, length-answer, content-answer, check-answer, form-at, in-range-at}
-use Rattle.log.proofs.Answers.{never-both, then-left, then-right, row-fails, said-number, said-place}
-use Rattle.log.proofs.Ranges.{form-known, form-in-range}
+use Rattle.log.specs.Refusal.{end-answer, length-answer, content-answer, check-answer}
 use Rattle.log.proofs.Records.{each-passes, content-refused}
 use Rattle.log.proofs.Ends.{all-commit}
 

@@ -7,7 +7,7 @@ use mathlib.Core.Option.{some}
 use lib.ListN.{length, getD}
 use Rattle.sets.specs.Search.{some-below, first-below}
 use Rattle.sets.specs.Bits.{has, Holds}
-use Rattle.log.specs.Record.{transactions, items, sites, is-by, writes-copy, writes-item, named, committed}
+use Rattle.format.specs.Record.{transactions, items, sites, is-by, writes-copy, writes-item, named, committed}
 
 -- a table that has, for each copy or each item c, the set of the transactions with a record before k that writes c. It is said
 -- of every number c and t, so also that none past the table's end is written or writes.

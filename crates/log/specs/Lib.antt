@@ -1,5 +1,3 @@
-pub mod Record
-pub mod Answer
 pub mod Refusal
 pub mod Source
 pub mod Numbers

@@ -1,15 +1,16 @@
--- The refusal table of document 01, a definition for each number, and the order of the tests.
+-- The refusal table of document 01, a definition for each number (4 and 5 are in format/specs/Form), and the order of the tests.
 use Prim.Native.Nat.{ℕ, zero, suc, _%_}
 use mathlib.Core.List.{List}
-use mathlib.Core.Bool.{Bool, not, _&&_, _||_, cond}
+use mathlib.Core.Bool.{Bool, not, _&&_}
 use mathlib.Core.Option.{Option, none, some}
 use lib.ListN.{length}
 use lib.Dec.{eqb, ltb}
 use Rattle.sets.specs.Search.{first-below}
-use Rattle.log.specs.Answer.{Answer, refused, passed, row, _then_}
-use Rattle.log.specs.Record.{record-bytes, transactions, items, sites, most-bytes, kind, transaction, item, site, records}
-use Rattle.log.specs.Record.{read-kind, write-kind, commit-kind, is-read, copy-of, is-by, committed, wrote-copy, wrote-item}
-use Rattle.log.specs.Record.{written, in-log}
+use Rattle.format.specs.Form.{form-at}
+use Rattle.format.specs.Answer.{Answer, refused, passed, row, _then_}
+use Rattle.format.specs.Record.{record-bytes, transactions, most-bytes, transaction, item, site, records}
+use Rattle.format.specs.Record.{is-read, copy-of, is-by, committed, wrote-copy, wrote-item}
+use Rattle.format.specs.Record.{written, in-log}
 
 -- 1: "log longer than 16,384 bytes"
 unfoldable pub too-long : List ℕ → Bool
@@ -18,25 +19,6 @@ too-long log = ltb most-bytes (length log)
 -- 2: "length not a multiple of 4"
 unfoldable pub ragged : List ℕ → Bool
 ragged log = not (eqb (length log % record-bytes) 0)
-
--- 4: "kind not 1, 2 or 3"
-unfoldable pub known-kind : ℕ → Bool
-known-kind b = read-kind b || write-kind b || commit-kind b
-
--- 5: "a number outside its range for that kind": transactions 0 to 63, items 0 to 63, sites 0 to 15; "a commit has item 0 and
--- site 0"
-unfoldable pub in-range : (b t x s : ℕ) → Bool
-in-range b t x s = cond (commit-kind b) (eqb x 0 && eqb s 0) (ltb x items && ltb s sites) && ltb t transactions
-
--- 4 and 5, which look at the four bytes of one record alone
-unfoldable pub form-answer : (k b t x s : ℕ) → Answer (Unit {0})
-form-answer k b t x s = row 4 (not (known-kind b)) k then row 5 (not (in-range b t x s)) k
-
-abbrev pub in-range-at : List ℕ → ℕ → Bool
-in-range-at log k = in-range (kind log k) (transaction log k) (item log k) (site log k)
-
-abbrev pub form-at : List ℕ → ℕ → Answer (Unit {0})
-form-at log k = form-answer k (kind log k) (transaction log k) (item log k) (site log k)
 
 -- 6: "the transaction has committed earlier"
 unfoldable pub after-commit : List ℕ → ℕ → Bool

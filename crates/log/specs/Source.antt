@@ -5,8 +5,8 @@ use mathlib.Core.Bool.{cond}
 use mathlib.Core.Option.{Option, none, some}
 use lib.Dec.{leb}
 use Rattle.sets.specs.Search.{last-below}
-use Rattle.log.specs.Answer.{Answer, gives, row, _then_}
-use Rattle.log.specs.Record.{transaction, records, is-read, copy-of, writes-copy}
+use Rattle.format.specs.Answer.{Answer, gives, row, _then_}
+use Rattle.format.specs.Record.{transaction, records, is-read, copy-of, writes-copy}
 use Rattle.log.specs.Refusal.{check-answer}
 
 -- of a read record, "the last earlier write record on the same copy"; nothing of a write or a commit

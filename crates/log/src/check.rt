@@ -1,23 +1,23 @@
 // The check of a log: numbers 1, 2 and 4 to 9, in one pass over the records.
 ghost use mathlib.Core.Path.{_≡_};
 ghost use Prim.Native.Nat.{_<_};
+ghost use Rattle.format.specs.Record.{records};
+ghost use Rattle.format.specs.Numbers.{checked-says};
 ghost use Rattle.log.specs.Refusal.{record-answer, end-answer, length-answer, content-answer, check-answer};
-ghost use Rattle.log.specs.Record.{records};
-ghost use Rattle.log.specs.Numbers.{checked-says};
 ghost use Rattle.log.specs.Kept.{KeptCopies, KeptItems, KeptCommits, KeptNames};
-use crate::form::form_answer;
 use crate::kept::history_answer;
 use crate::kept::keep_commit;
 use crate::kept::keep_first;
 use crate::kept::keep_write;
-use crate::record::Copy;
-use crate::record::MOST_BYTES;
-use crate::record::RECORD_BYTES;
-use crate::record::TRANSACTIONS;
-use crate::record::record_at;
-use crate::record::record_count;
-use crate::refusal::Checked;
-use crate::refusal::Refusal;
+use format::form::form_answer;
+use format::record::Copy;
+use format::record::MOST_BYTES;
+use format::record::RECORD_BYTES;
+use format::record::TRANSACTIONS;
+use format::record::record_at;
+use format::record::record_count;
+use format::refusal::Checked;
+use format::refusal::Refusal;
 
 // Number 9, from what is kept of a whole log: the lowest-numbered transaction that is named and has not committed.
 fn end_answer(log: &[u8], named: u64, committed: u64, firsts: &[usize; TRANSACTIONS]) -> Checked

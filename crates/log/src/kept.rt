@@ -3,21 +3,21 @@
 ghost use mathlib.Core.Path.{_≡_};
 ghost use mathlib.Core.Bool.{true};
 ghost use Prim.Native.Nat.{_+_};
-ghost use Rattle.log.specs.Record.{Within, is-read};
+ghost use Rattle.format.specs.Record.{Within, is-read};
+ghost use Rattle.format.specs.Numbers.{checked-says};
 ghost use Rattle.log.specs.Refusal.{read-answer, history-answer};
-ghost use Rattle.log.specs.Numbers.{checked-says};
 ghost use Rattle.log.specs.Kept.{KeptCopies, KeptItems, KeptCommits, KeptNames};
-use crate::record::COMMIT;
-use crate::record::Copy;
-use crate::record::READ;
-use crate::record::TRANSACTIONS;
-use crate::record::WRITE;
-use crate::record::copy_at;
-use crate::record::item_at;
-use crate::record::kind_at;
-use crate::record::transaction_at;
-use crate::refusal::Checked;
-use crate::refusal::Refusal;
+use format::record::COMMIT;
+use format::record::Copy;
+use format::record::READ;
+use format::record::TRANSACTIONS;
+use format::record::WRITE;
+use format::record::copy_at;
+use format::record::item_at;
+use format::record::kind_at;
+use format::record::transaction_at;
+use format::refusal::Checked;
+use format::refusal::Refusal;
 
 // Numbers 7 and 8 at record k, a read.
 fn read_answer(

@@ -1,7 +1,4 @@
 // Reads logs: checks them by document 01's table and names the transaction behind every read.
 pub mod check;
-mod form;
 mod kept;
-pub mod record;
-pub mod refusal;
 pub mod source;

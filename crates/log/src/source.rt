@@ -1,20 +1,20 @@
 // The source of a read, and the question "source of record k".
 ghost use mathlib.Core.Path.{_≡_};
 ghost use Prim.Native.Nat.{_<_};
-ghost use Rattle.log.specs.Answer.{passed};
-ghost use Rattle.log.specs.Record.{Within, records, writes-copy, copy-of};
+ghost use Rattle.format.specs.Answer.{passed};
+ghost use Rattle.format.specs.Record.{Within, records, writes-copy, copy-of};
 ghost use Rattle.log.specs.Refusal.{check-answer};
 ghost use Rattle.log.specs.Source.{source-record, source-answer};
 ghost use Rattle.log.specs.Numbers.{found-says, source-says};
 use crate::check::check;
-use crate::record::READ;
-use crate::record::WRITE;
-use crate::record::copy_at;
-use crate::record::kind_at;
-use crate::record::record_at;
-use crate::record::record_count;
-use crate::refusal::Checked;
-use crate::refusal::Refusal;
+use format::record::READ;
+use format::record::WRITE;
+use format::record::copy_at;
+use format::record::kind_at;
+use format::record::record_at;
+use format::record::record_count;
+use format::refusal::Checked;
+use format::refusal::Refusal;
 
 // A record's place, or none.
 pub enum Found {

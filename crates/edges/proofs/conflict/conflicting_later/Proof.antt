@@ -6,8 +6,8 @@ use Prim.Native.Nat.{ℕ, _+_}
 use denote.Ref.{now}
 use Rattle.sets.specs.Search.{some-from}
 use Rattle.sets.proofs.Members.{has-zero}
-use Rattle.log.specs.Record.{records, is-by, writes-copy}
-use Rattle.log.proofs.KindBytes.{byte-is, byte-is-not, read-byte, write-byte}
+use Rattle.format.specs.Record.{records, is-by, writes-copy}
+use Rattle.format.proofs.KindBytes.{byte-is, byte-is-not, read-byte, write-byte}
 use Rattle.edges.specs.Reasons.{uses-copy}
 use Rattle.edges.proofs.Conflicts.{read-conflicts, write-conflicts, none-conflicts}
 use Rattle.edges.proofs.conflict.conflicting_later.Statement.{statement}

@@ -7,9 +7,9 @@ use mathlib.Core.List.{List}
 use Prim.Native.Nat.{ℕ, _+_, _-_, _*_, _≤_}
 use lib.ListN.{replicate}
 use denote.Ref.{now}
-use Rattle.log.specs.Record.{Within, items, sites, records, writes-copy}
+use Rattle.format.specs.Record.{Within, items, sites, records, writes-copy}
+use Rattle.format.proofs.KindBytes.{writes-copy-of}
 use Rattle.log.proofs.Passed.{passed-within}
-use Rattle.log.proofs.KindBytes.{writes-copy-of}
 use Rattle.edges.specs.Reasons.{uses-copy, gives-conflict}
 use Rattle.edges.specs.Kept.{LaterRows, LaterUsers, LaterWriters}
 use Rattle.edges.proofs.Steps.{empty-table, back-one, rows-start, rows-add, later-start, writers-add}

@@ -5,8 +5,8 @@ use mathlib.Core.Logic.{⊎-elim}
 use Prim.Native.Nat.{ℕ}
 use lib.Dec.{eqb}
 use denote.Ref.{now}
-use Rattle.log.specs.Record.{copy-of}
-use Rattle.log.proofs.KindBytes.{byte-is, byte-is-not, read-byte, write-byte}
+use Rattle.format.specs.Record.{copy-of}
+use Rattle.format.proofs.KindBytes.{byte-is, byte-is-not, read-byte, write-byte}
 use Rattle.edges.specs.Reasons.{uses-copy}
 use Rattle.edges.proofs.Conflicts.{use-of-read, use-of-write, use-of-none}
 use Rattle.edges.proofs.Steps.{later-add, later-stay}

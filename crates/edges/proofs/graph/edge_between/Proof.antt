@@ -5,9 +5,9 @@ use mathlib.Core.Path.{_≡_, _∙_, sym, ap}
 use mathlib.Core.List.{List}
 use Prim.Native.Nat.{ℕ}
 use denote.Ref.{now}
-use Rattle.log.specs.Answer.{gives, passed}
+use Rattle.format.specs.Answer.{gives, passed}
+use Rattle.format.specs.Numbers.{checked-says}
 use Rattle.log.specs.Refusal.{check-answer}
-use Rattle.log.specs.Numbers.{checked-says}
 use Rattle.edges.proofs.Questions.{edge-refused, edge-from-none, edge-to-none, edge-given}
 use Rattle.edges.proofs.graph.edge_between.Statement.{statement}
 use Rattle.edges.proofs.graph.edge_between.Tie as tie

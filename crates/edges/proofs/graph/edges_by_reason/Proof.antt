@@ -1,6 +1,6 @@
 -- `edges::graph::edges_by_reason` meets its contract: it hands on what the passes promise. Assumes nothing.
 use denote.Ref.{now}
-use Rattle.log.specs.Record.{items, transactions}
+use Rattle.format.specs.Record.{items, transactions}
 use Rattle.edges.proofs.Steps.{empty-table}
 use Rattle.edges.proofs.Graphs.{only-members}
 use Rattle.edges.proofs.graph.edges_by_reason.Statement.{statement}

@@ -4,9 +4,9 @@ use mathlib.Core.Path.{_≡_, refl, _∙_, sym, ap}
 use mathlib.Core.List.{List}
 use Prim.Native.Nat.{ℕ}
 use denote.Ref.{now}
-use Rattle.log.specs.Answer.{gives, passed}
+use Rattle.format.specs.Answer.{gives, passed}
+use Rattle.format.specs.Numbers.{checked-says}
 use Rattle.log.specs.Refusal.{check-answer}
-use Rattle.log.specs.Numbers.{checked-says}
 use Rattle.edges.proofs.Questions.{graph-refused, graph-given}
 use Rattle.edges.proofs.graph.graph_of_log.Statement.{statement}
 use Rattle.edges.proofs.graph.graph_of_log.Tie as tie

@@ -2,7 +2,7 @@
 -- adds anything. Assumes nothing.
 use borrow.Author.Needs.{needs}
 use denote.Ref.{now}
-use Rattle.log.proofs.KindBytes.{byte-is, byte-is-not, commit-byte}
+use Rattle.format.proofs.KindBytes.{byte-is, byte-is-not, commit-byte}
 use Rattle.edges.specs.Order.{is-earlier-commit}
 use Rattle.edges.proofs.Steps.{rows-add, rows-stay}
 use Rattle.edges.proofs.KeptOrders.{commits-add, commits-stay, earlier-commit-kept, no-earlier-commit}

@@ -5,9 +5,9 @@ use mathlib.Core.Path.{_≡_, sym, subst}
 use mathlib.Core.List.{List}
 use Prim.Native.Nat.{ℕ, _-_, _≤_}
 use denote.Ref.{now}
-use Rattle.log.specs.Record.{Within, items, records, writes-item}
+use Rattle.format.specs.Record.{Within, items, records, writes-item}
+use Rattle.format.proofs.KindBytes.{writes-item-of}
 use Rattle.log.proofs.Passed.{passed-within}
-use Rattle.log.proofs.KindBytes.{writes-item-of}
 use Rattle.edges.specs.Order.{is-earlier-commit}
 use Rattle.edges.specs.Kept.{LaterItemWriters, LaterRows, LaterCommits}
 use Rattle.edges.proofs.Steps.{back-one, writers-add, later-start, rows-start}

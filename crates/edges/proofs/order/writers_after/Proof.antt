@@ -3,7 +3,7 @@ use borrow.Author.Needs.{needs}
 use mathlib.Core.Path.{_∙_, ap, ap₂}
 use mathlib.Core.Bool.{_&&_}
 use denote.Ref.{now}
-use Rattle.log.specs.Record.{item}
+use Rattle.format.specs.Record.{item}
 use Rattle.edges.specs.Order.{writes}
 use Rattle.edges.proofs.KeptOrders.{writer-after-kept}
 use Rattle.edges.proofs.order.writers_after.Statement.{statement}

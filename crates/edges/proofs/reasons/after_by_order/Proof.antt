@@ -5,8 +5,8 @@ use mathlib.Core.Path.{_∙_, sym, ap}
 use denote.Ref.{now}
 use Prim.Native.Nat.{ℕ}
 use Rattle.sets.proofs.Members.{has-zero}
-use Rattle.log.specs.Record.{item}
-use Rattle.log.proofs.KindBytes.{byte-is, byte-is-not, write-byte}
+use Rattle.format.specs.Record.{item}
+use Rattle.format.proofs.KindBytes.{byte-is, byte-is-not, write-byte}
 use Rattle.edges.specs.Order.{writer-after}
 use Rattle.edges.proofs.Given.{write-gives, other-gives}
 use Rattle.edges.proofs.reasons.after_by_order.Statement.{statement}

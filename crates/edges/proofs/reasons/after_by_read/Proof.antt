@@ -7,7 +7,7 @@ use mathlib.Core.Option.{some}
 use Prim.Native.Nat.{ℕ}
 use denote.Ref.{now}
 use Rattle.sets.proofs.Members.{has-zero}
-use Rattle.log.specs.Record.{item}
+use Rattle.format.specs.Record.{item}
 use Rattle.log.specs.Source.{source-record}
 use Rattle.log.specs.Numbers.{found-says}
 use Rattle.log.proofs.Sources.{sourced}

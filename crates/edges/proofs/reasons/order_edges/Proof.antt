@@ -6,7 +6,7 @@ use mathlib.Core.List.{List}
 use mathlib.Core.Bool.{Bool}
 use Prim.Native.Nat.{ℕ, _+_, _-_, _≤_}
 use denote.Ref.{now}
-use Rattle.log.specs.Record.{Within, records}
+use Rattle.format.specs.Record.{Within, records}
 use Rattle.log.proofs.Passed.{passed-within}
 use Rattle.edges.specs.Reasons.{gives-write-order, gives-read-before}
 use Rattle.edges.specs.Kept.{LaterRows}

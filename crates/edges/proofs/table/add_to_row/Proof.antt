@@ -7,7 +7,7 @@ use mathlib.Core.Bool.{Bool, _&&_, _||_}
 use denote.Ref.{now}
 use Rattle.sets.specs.Bits.{has, in-row, Holds}
 use Rattle.sets.proofs.Tables.{holds-store}
-use Rattle.log.specs.Record.{transactions}
+use Rattle.format.specs.Record.{transactions}
 use Rattle.log.proofs.Passed.{by-is}
 use Rattle.edges.proofs.table.add_to_row.Statement.{statement}
 use Rattle.edges.proofs.table.add_to_row.Tie as tie

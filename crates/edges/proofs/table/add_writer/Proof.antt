@@ -7,8 +7,8 @@ use denote.Ref.{now}
 use Rattle.sets.specs.Bits.{in-row}
 use Rattle.sets.proofs.Truth.{stayed, and-swap}
 use Rattle.sets.proofs.Tables.{holds-same}
-use Rattle.log.specs.Record.{is-by, is-write}
-use Rattle.log.proofs.KindBytes.{byte-is, byte-is-not, write-byte}
+use Rattle.format.specs.Record.{is-by, is-write}
+use Rattle.format.proofs.KindBytes.{byte-is, byte-is-not, write-byte}
 use Rattle.edges.proofs.table.add_writer.Statement.{statement}
 use Rattle.edges.proofs.table.add_writer.Tie as tie
 

@@ -9,7 +9,7 @@ use denote.Ref.{now}
 use Rattle.sets.specs.Bits.{in-row}
 use Rattle.sets.proofs.Truth.{and-swap}
 use Rattle.sets.proofs.Tables.{RowsBelow, rows-none, rows-more, rows-all}
-use Rattle.log.specs.Record.{transactions}
+use Rattle.format.specs.Record.{transactions}
 use Rattle.edges.specs.Table.{any-reason}
 use Rattle.edges.proofs.Graphs.{past-all}
 use Rattle.edges.proofs.table.joined.Statement.{statement}

@@ -3,9 +3,9 @@
 use borrow.Author.Needs.{needs}
 use mathlib.Core.Path.{_∙_, sym, ap}
 use denote.Ref.{now}
+use Rattle.format.specs.Numbers.{checked-says}
+use Rattle.format.proofs.Answers.{passed-then, refused-then}
 use Rattle.log.specs.Refusal.{length-answer, content-answer, check-answer}
-use Rattle.log.specs.Numbers.{checked-says}
-use Rattle.log.proofs.Answers.{passed-then, refused-then}
 use Rattle.log.proofs.check.check.Statement.{statement}
 use Rattle.log.proofs.check.check.Tie as tie
 

@@ -6,13 +6,13 @@ use mathlib.Core.Path.{_≡_, _∙_, sym, ap}
 use mathlib.Core.List.{List}
 use Prim.Native.Nat.{ℕ, _<_, _≤_, _-_, _*_}
 use denote.Ref.{now}
-use Rattle.log.specs.Answer.{passed}
-use Rattle.log.specs.Record.{Within, items, sites, records, writes-copy, writes-item}
+use Rattle.format.specs.Answer.{passed}
+use Rattle.format.specs.Record.{Within, items, sites, records, writes-copy, writes-item}
+use Rattle.format.specs.Numbers.{checked-says}
 use Rattle.log.specs.Refusal.{record-answer, records-answer}
-use Rattle.log.specs.Numbers.{checked-says}
 use Rattle.log.specs.Kept.{KeptCopies, KeptItems, KeptCommits, KeptNames}
 use Rattle.log.proofs.Steps.{writers-start, commits-start, names-start}
-use Rattle.log.proofs.Ranges.{within-passed}
+use Rattle.log.proofs.Records.{within-passed}
 use Rattle.log.proofs.Records.{no-records, one-more, content-refused, content-ends}
 use Rattle.log.proofs.check.content_answer.Statement.{statement}
 use Rattle.log.proofs.check.content_answer.Tie as tie

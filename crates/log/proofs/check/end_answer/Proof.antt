@@ -9,7 +9,7 @@ use Prim.Native.Nat.{ℕ, _<_, _≤_, _-_}
 use denote.Ref.{now}
 use Rattle.sets.specs.Bits.{has}
 use Rattle.sets.proofs.Searches.{none-zero, none-more}
-use Rattle.log.specs.Record.{transactions}
+use Rattle.format.specs.Record.{transactions}
 use Rattle.log.specs.Refusal.{never-commits}
 use Rattle.log.proofs.Ends.{all-commit, never-kept, same-sets, open-at}
 use Rattle.log.proofs.check.end_answer.Statement.{statement}

@@ -5,11 +5,12 @@ use mathlib.Core.Path.{_≡_, _∙_, sym, ap}
 use mathlib.Core.List.{List}
 use Prim.Native.Nat.{ℕ}
 use denote.Ref.{now}
-use Rattle.log.specs.Answer.{passed}
-use Rattle.log.specs.Refusal.{form-answer, form-at, history-answer, record-answer}
-use Rattle.log.specs.Numbers.{checked-says}
-use Rattle.log.proofs.Answers.{passed-then, refused-then}
-use Rattle.log.proofs.Ranges.{within-record}
+use Rattle.format.specs.Answer.{passed}
+use Rattle.format.specs.Form.{form-answer, form-at}
+use Rattle.format.specs.Numbers.{checked-says}
+use Rattle.format.proofs.Answers.{passed-then, refused-then}
+use Rattle.format.proofs.Ranges.{within-record}
+use Rattle.log.specs.Refusal.{history-answer, record-answer}
 use Rattle.log.proofs.check.record_answer.Statement.{statement}
 use Rattle.log.proofs.check.record_answer.Tie as tie
 

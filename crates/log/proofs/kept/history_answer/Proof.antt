@@ -5,8 +5,8 @@ use mathlib.Core.Path.{_≡_, _∙_, sym}
 use mathlib.Core.List.{List}
 use Prim.Native.Nat.{ℕ}
 use denote.Ref.{now}
+use Rattle.format.proofs.KindBytes.{byte-is, byte-is-not, read-byte}
 use Rattle.log.specs.Refusal.{after-commit}
-use Rattle.log.proofs.KindBytes.{byte-is, byte-is-not, read-byte}
 use Rattle.log.proofs.Histories.{gives-6, skips-6, after-kept, other-passes}
 use Rattle.log.proofs.kept.history_answer.Statement.{statement}
 use Rattle.log.proofs.kept.history_answer.Tie as tie

@@ -1,7 +1,7 @@
 -- `log::kept::keep_commit` meets its contract: a commit adds its transaction, and no other record does. Assumes nothing.
 use borrow.Author.Needs.{needs}
 use denote.Ref.{now}
-use Rattle.log.proofs.KindBytes.{byte-is, byte-is-not, commit-byte}
+use Rattle.format.proofs.KindBytes.{byte-is, byte-is-not, commit-byte}
 use Rattle.log.proofs.Steps.{commits-add, commits-stay}
 use Rattle.log.proofs.kept.keep_commit.Statement.{statement}
 use Rattle.log.proofs.kept.keep_commit.Tie as tie

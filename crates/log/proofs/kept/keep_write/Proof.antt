@@ -5,8 +5,8 @@ use mathlib.Core.Path.{_∙_, sym, ap}
 use Prim.Native.Nat.{ℕ, _*_}
 use lib.Dec.{eqb}
 use denote.Ref.{now}
-use Rattle.log.specs.Record.{items, sites, writes-copy, writes-item}
-use Rattle.log.proofs.KindBytes.{byte-is, byte-is-not, write-byte, copy-writes, item-writes, copy-silent, item-silent}
+use Rattle.format.specs.Record.{items, sites, writes-copy, writes-item}
+use Rattle.format.proofs.KindBytes.{byte-is, byte-is-not, write-byte, copy-writes, item-writes, copy-silent, item-silent}
 use Rattle.log.proofs.Steps.{writers-add, writers-stay}
 use Rattle.log.proofs.kept.keep_write.Statement.{statement}
 use Rattle.log.proofs.kept.keep_write.Tie as tie

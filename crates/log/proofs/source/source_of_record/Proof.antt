@@ -7,11 +7,12 @@ use mathlib.Core.List.{List}
 use mathlib.Core.Option.{Option, some, none}
 use Prim.Native.Nat.{ℕ, _<_}
 use denote.Ref.{now}
-use Rattle.log.specs.Answer.{gives, passed}
-use Rattle.log.specs.Record.{records}
+use Rattle.format.specs.Answer.{gives, passed}
+use Rattle.format.specs.Record.{records}
+use Rattle.format.specs.Numbers.{checked-says}
 use Rattle.log.specs.Refusal.{check-answer}
 use Rattle.log.specs.Source.{source, its-transaction, source-answer}
-use Rattle.log.specs.Numbers.{checked-says, found-says}
+use Rattle.log.specs.Numbers.{found-says}
 use Rattle.log.proofs.Sources.{sourced, asked-refused, asked-past, asked}
 use Rattle.log.proofs.source.source_of_record.Statement.{statement}
 use Rattle.log.proofs.source.source_of_record.Tie as tie

@@ -5,8 +5,8 @@ use mathlib.Core.Path.{_≡_, _∙_, sym}
 use mathlib.Core.Bool.{true, false}
 use Prim.Native.Nat.{ℕ, _-_, _≤_, _<_}
 use denote.Ref.{now}
-use Rattle.log.specs.Record.{is-read}
-use Rattle.log.proofs.KindBytes.{byte-is, byte-is-not, read-byte}
+use Rattle.format.specs.Record.{is-read}
+use Rattle.format.proofs.KindBytes.{byte-is, byte-is-not, read-byte}
 use Rattle.log.proofs.Passed.{passed-within}
 use Rattle.log.proofs.Sources.{writes-it, source-other, source-found, source-missing, step-back}
 use Rattle.log.proofs.source.source_record.Statement.{statement}

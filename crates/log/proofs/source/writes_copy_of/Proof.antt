@@ -4,8 +4,8 @@ use borrow.Author.Needs.{needs}
 use mathlib.Core.Path.{_∙_, sym, ap₂}
 use lib.Dec.{eqb}
 use denote.Ref.{now}
-use Rattle.log.specs.Record.{copy-of}
-use Rattle.log.proofs.KindBytes.{byte-is, byte-is-not, write-byte, copy-writes, copy-silent}
+use Rattle.format.specs.Record.{copy-of}
+use Rattle.format.proofs.KindBytes.{byte-is, byte-is-not, write-byte, copy-writes, copy-silent}
 use Rattle.log.proofs.source.writes_copy_of.Statement.{statement}
 use Rattle.log.proofs.source.writes_copy_of.Tie as tie
 

@@ -2,9 +2,9 @@
 -- Assumes nothing.
 use borrow.Author.Needs.{needs}
 use mathlib.Core.Path.{_∙_, ap₂}
-use Rattle.log.specs.Record.{copy-number, copy-of}
-use Rattle.log.proofs.record.copy_at.Statement.{statement}
-use Rattle.log.proofs.record.copy_at.Tie as tie
+use Rattle.format.specs.Record.{copy-number, copy-of}
+use Rattle.format.proofs.record.copy_at.Statement.{statement}
+use Rattle.format.proofs.record.copy_at.Tie as tie
 
 record-at-requires : tie.Need-record-at-requires
 record-at-requires c κs = search needs

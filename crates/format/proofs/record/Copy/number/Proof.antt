@@ -3,9 +3,9 @@
 use borrow.Author.Needs.{needs}
 use native.Mathlib.Omega.{arith}
 use mathlib.Core.Path.{refl}
-use Rattle.log.specs.Record.{copy-number}
-use Rattle.log.proofs.record.Copy.number.Statement.{statement}
-use Rattle.log.proofs.record.Copy.number.Tie as tie
+use Rattle.format.specs.Record.{copy-number}
+use Rattle.format.proofs.record.Copy.number.Statement.{statement}
+use Rattle.format.proofs.record.Copy.number.Tie as tie
 
 cast-result : tie.Need-cast-result
 cast-result c = search needs

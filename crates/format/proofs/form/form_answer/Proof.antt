@@ -3,9 +3,9 @@
 use borrow.Author.Needs.{needs}
 use borrow.Author.Tests.{lt-ltb, le-ltb, eq-eqb, ne-eqb}
 use native.Mathlib.Omega.{arith}
-use Rattle.log.proofs.Forms.{access-form, commit-form, no-form}
-use Rattle.log.proofs.form.form_answer.Statement.{statement}
-use Rattle.log.proofs.form.form_answer.Tie as tie
+use Rattle.format.proofs.Forms.{access-form, commit-form, no-form}
+use Rattle.format.proofs.form.form_answer.Statement.{statement}
+use Rattle.format.proofs.form.form_answer.Tie as tie
 
 transaction-form-requires : tie.Need-transaction-form-requires
 transaction-form-requires c κs = search needs

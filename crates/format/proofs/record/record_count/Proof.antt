@@ -1,8 +1,8 @@
 -- `log::record::record_count` meets its contract: the code is the definition. Assumes nothing.
 use borrow.Author.Needs.{needs}
-use Rattle.log.specs.Record.{records}
-use Rattle.log.proofs.record.record_count.Statement.{statement}
-use Rattle.log.proofs.record.record_count.Tie as tie
+use Rattle.format.specs.Record.{records}
+use Rattle.format.proofs.record.record_count.Statement.{statement}
+use Rattle.format.proofs.record.record_count.Tie as tie
 
 returns : tie.Need-returns
 unfolding records

@@ -5,9 +5,9 @@ use mathlib.Core.Path.{_≡_, refl}
 use mathlib.Core.Bool.{not, _&&_}
 use lib.Dec.{eqb, ltb}
 use borrow.Author.Tests.{ne-eqb}
-use Rattle.log.specs.Answer.{refused, row}
-use Rattle.log.specs.Record.{transactions, items, sites, read-kind, write-kind, commit-kind}
-use Rattle.log.specs.Refusal.{known-kind, in-range, form-answer}
+use Rattle.format.specs.Answer.{refused, row}
+use Rattle.format.specs.Record.{transactions, items, sites, read-kind, write-kind, commit-kind}
+use Rattle.format.specs.Form.{known-kind, in-range, form-answer}
 
 -- a read or a write: the kinds 1 and 2
 pub access-form : (k b t x s : ℕ) → 1 ≤ b → b < 3

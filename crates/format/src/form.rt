@@ -2,10 +2,10 @@
 ghost use mathlib.Core.Path.{_≡_};
 ghost use mathlib.Core.Bool.{not};
 ghost use lib.Dec.{ltb};
-ghost use Rattle.log.specs.Answer.{row};
-ghost use Rattle.log.specs.Record.{transactions};
-ghost use Rattle.log.specs.Refusal.{form-answer};
-ghost use Rattle.log.specs.Numbers.{checked-says};
+ghost use Rattle.format.specs.Answer.{row};
+ghost use Rattle.format.specs.Record.{transactions};
+ghost use Rattle.format.specs.Form.{form-answer};
+ghost use Rattle.format.specs.Numbers.{checked-says};
 use crate::record::COMMIT;
 use crate::record::Copy;
 use crate::record::LAST_TRANSACTION;
@@ -25,7 +25,7 @@ fn transaction_form(k: usize, transaction: u8) -> Checked
 }
 
 // Numbers 4 and 5 for the bytes of the record at place k. A read or a write names any copy, a commit item 0 and site 0.
-pub(crate) fn form_answer(k: usize, kind: u8, transaction: u8, item: u8, site: u8) -> Checked
+pub fn form_answer(k: usize, kind: u8, transaction: u8, item: u8, site: u8) -> Checked
     ensures { λ r. ⌜ checked-says r ≡ form-answer k kind transaction item site ⌝ }
 {
     match kind {

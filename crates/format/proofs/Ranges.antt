@@ -7,10 +7,10 @@ use mathlib.Core.Bool.{Bool, true, false, not, _&&_, cond}
 use lib.Dec.{eqb, ltb}
 use borrow.Author.Tests.{ltb-true, eqb-true, not-false}
 use Rattle.sets.proofs.Truth.{and-left, and-right}
-use Rattle.log.specs.Answer.{passed, row}
-use Rattle.log.specs.Record.{Within, transactions, items, sites, kind, transaction, item, site, records, commit-kind}
-use Rattle.log.specs.Refusal.{known-kind, in-range, form-answer, form-at, history-answer, record-answer}
-use Rattle.log.proofs.Answers.{then-left, then-right, row-fails}
+use Rattle.format.specs.Answer.{passed, row}
+use Rattle.format.specs.Record.{Within, transactions, items, sites, kind, transaction, item, site, records, commit-kind}
+use Rattle.format.specs.Form.{known-kind, in-range, form-answer, form-at}
+use Rattle.format.proofs.Answers.{then-left, then-right, row-fails}
 
 -- a commit's item and site are 0, so they are in range too
 low-numbers : (c : Bool) (x s : ℕ) → cond c (eqb x 0 && eqb s 0) (ltb x items && ltb s sites) ≡ true → (x < items) × (s < sites)
@@ -42,8 +42,3 @@ module _ (log : List ℕ) (k : ℕ) where
   within-record l h =
       let low = form-low k (kind log k) (transaction log k) (item log k) (site log k) h in
       record { there = l; transaction-within = low .0; item-within = low .1 .0; site-within = low .1 .1 }
-
-  pub within-passed : k < records log → record-answer log k ≡ passed → Within log k
-  unfolding record-answer
-  within-passed l h =
-      within-record l (then-left (form-at log k) (history-answer log k) h)

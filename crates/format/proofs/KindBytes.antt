@@ -6,8 +6,8 @@ use mathlib.Core.List.{List}
 use mathlib.Core.Bool.{Bool, true, false, _&&_}
 use lib.Dec.{eqb}
 use borrow.Author.Tests.{eq-eqb, ne-eqb, eqb-true}
-use Rattle.log.specs.Record.{kind, item, copy-of, is-read, is-write, is-commit, read-kind, write-kind, commit-kind}
-use Rattle.log.specs.Record.{writes-copy, writes-item}
+use Rattle.format.specs.Record.{kind, item, copy-of, is-read, is-write, is-commit, read-kind, write-kind, commit-kind}
+use Rattle.format.specs.Record.{writes-copy, writes-item}
 
 -- a test of the kind byte, by a byte that was read and compared
 pub byte-is : {test : Bool} {kind byte n : ℕ} → test ≡ eqb kind n → byte ≡ kind → byte ≡ n → test ≡ true

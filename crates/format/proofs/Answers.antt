@@ -2,7 +2,7 @@
 use Prim.Native.Nat.{ℕ}
 use mathlib.Core.Path.{_≡_, refl, ap}
 use mathlib.Core.Bool.{Bool, true, false, true≢false}
-use Rattle.log.specs.Answer.{Answer, gives, refused, passed, row, _then_}
+use Rattle.format.specs.Answer.{Answer, gives, refused, passed, row, _then_}
 
 -- a refusal is no answer
 is-refused : {A : Type 0} → Answer A → Bool

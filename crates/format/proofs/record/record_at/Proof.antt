@@ -2,9 +2,9 @@
 -- Assumes nothing.
 use borrow.Author.Needs.{needs}
 use native.Mathlib.Omega.{arith}
-use Rattle.log.specs.Record.{kind, transaction, item, site, records}
-use Rattle.log.proofs.record.record_at.Statement.{statement}
-use Rattle.log.proofs.record.record_at.Tie as tie
+use Rattle.format.specs.Record.{kind, transaction, item, site, records}
+use Rattle.format.proofs.record.record_at.Statement.{statement}
+use Rattle.format.proofs.record.record_at.Tie as tie
 
 mul-at : tie.Need-mul-at
 unfolding records

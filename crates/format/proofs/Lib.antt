@@ -1,0 +1,5 @@
+pub mod Answers
+pub mod KindBytes
+pub mod Forms
+pub mod Ranges
+pub mod Determined

@@ -1,0 +1,4 @@
+pub mod Record
+pub mod Answer
+pub mod Form
+pub mod Numbers
