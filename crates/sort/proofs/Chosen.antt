@@ -70,7 +70,9 @@ module _ (edge : ℕ → ℕ → Bool) where
     pub is-within : set s ≡ true → set t ≡ true → (s ≡ t → ⊥) → edge s t ≡ true → edge-within edge set s t ≡ true
     unfolding edge-within
     is-within a b q e =
-        and-true (set s && set t) (not (eqb s t) && edge s t) (and-true (set s) (set t) a b) (and-true (not (eqb s t)) (edge s t) (ap not (ne-eqb s t q)) e)
+        and-true (set s && set t) (not (eqb s t) && edge s t)
+        (and-true (set s) (set t) a b)
+        (and-true (not (eqb s t)) (edge s t) (ap not (ne-eqb s t q)) e)
 
     pub within-from : edge-within edge set s t ≡ true → set s ≡ true
     unfolding edge-within
@@ -156,7 +158,8 @@ module _ (edge : ℕ → ℕ → Bool) where
       unfolding lowest-predecessor
       lowest-view = first-view (predecessor edge left t) n
 
-      pub lowest-hit : (s : ℕ) → s < n → None (predecessor edge left t) s → predecessor edge left t s ≡ true → lowest-predecessor n edge left t ≡ some s
+      pub lowest-hit : (s : ℕ) → s < n → None (predecessor edge left t) s → predecessor edge left t s ≡ true
+          → lowest-predecessor n edge left t ≡ some s
       unfolding lowest-predecessor
       lowest-hit s l f h = first-hit (predecessor edge left t) n s l f h
 

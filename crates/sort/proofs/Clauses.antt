@@ -21,7 +21,8 @@ module _ (n : ℕ) (edge : ℕ → ℕ → Bool) where
   placed-none zero left e = refl
   placed-none (suc m) left e = rw e refl
 
-  pub placed-some : (m : ℕ) (left : ℕ → Bool) (t : ℕ) → next n edge left ≡ some t → placed n edge (suc m) left ≡ t ∷ placed n edge m (without left t)
+  pub placed-some : (m : ℕ) (left : ℕ → Bool) (t : ℕ) → next n edge left ≡ some t
+      → placed n edge (suc m) left ≡ t ∷ placed n edge m (without left t)
   unfolding placed Option·elim
   placed-some m left t e = rw e refl
 
@@ -59,7 +60,8 @@ module _ (back : ℕ → Option ℕ) where
   unfolding walk Option·elim
   walk-lost m t path e = rw e refl
 
-  pub walk-ends : (m t s : ℕ) (path : List ℕ) → back t ≡ some s → among path s ≡ true → walk back (suc m) t path ≡ take (suc (place-of s path)) path
+  pub walk-ends : (m t s : ℕ) (path : List ℕ) → back t ≡ some s → among path s ≡ true
+      → walk back (suc m) t path ≡ take (suc (place-of s path)) path
   unfolding walk Option·elim
   walk-ends m t s path e a = rw (e, a) refl
 

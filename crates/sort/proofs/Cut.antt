@@ -21,7 +21,8 @@ slice-take path at m l =
 -- a list, from place p on and then up to it
 two-parts : (xs to : List ℕ) (p : ℕ) → p ≤ length xs → sets (sets to 0 (drop p xs)) (length xs - p) (take p xs) ≡ sets to 0 (turned p xs)
 two-parts xs to p l =
-    ap (λ (k : ℕ). sets (sets to 0 (drop p xs)) k (take p xs)) (sym (length-drop p xs) ∙ omega arith) ∙ sym (sets-append (drop p xs) (take p xs) to 0)
+    ap (λ (k : ℕ). sets (sets to 0 (drop p xs)) k (take p xs)) (sym (length-drop p xs) ∙ omega arith)
+    ∙ sym (sets-append (drop p xs) (take p xs) to 0)
 
 length-turned : (xs : List ℕ) (p : ℕ) → p ≤ length xs → length (turned p xs) ≡ length xs
 length-turned xs p l = length-append (drop p xs) (take p xs) ∙ omega (arith, length-drop p xs, length-take-le p xs l, l)
@@ -44,7 +45,8 @@ module _ (path : List ℕ) (at again : ℕ) (whole : length path ≡ numbers) (t
     ring-part : slice at (last + 1) path ≡ ring
     ring-part =
         let end : last + 1 ≡ at + suc (place-of again (drop at path)) = omega (arith, found) in
-        ap (λ (e : ℕ). slice at e path) end ∙ slice-take path at (suc (place-of again (drop at path))) (omega (arith, found, last-low, whole))
+        ap (λ (e : ℕ). slice at e path) end
+        ∙ slice-take path at (suc (place-of again (drop at path))) (omega (arith, found, last-low, whole))
 
     module _ (low : ℕ) (lowest-there : low ≡ at + place-of (lowest (slice at (last + 1) path)) (slice at (last + 1) path)) where
       abbrev p : ℕ
@@ -62,7 +64,8 @@ module _ (path : List ℕ) (at again : ℕ) (whole : length path ≡ numbers) (t
       pub low-to : low ≤ last
       low-to = omega (arith, low-place, p-low, ring-length, found)
 
-      pub ring-written : (to : List ℕ) → sets (sets to 0 (slice low (last + 1) path)) (last + 1 - low) (slice at low path) ≡ sets to 0 (to-lowest ring)
+      pub ring-written : (to : List ℕ)
+          → sets (sets to 0 (slice low (last + 1) path)) (last + 1 - low) (slice at low path) ≡ sets to 0 (to-lowest ring)
       ring-written to =
           ap (λ (xs : List ℕ). sets (sets to 0 xs) (last + 1 - low) (slice at low path)) first-part
           ∙ ap (λ (xs : List ℕ). sets (sets to 0 (drop p ring)) (last + 1 - low) xs) second-part
@@ -71,7 +74,10 @@ module _ (path : List ℕ) (at again : ℕ) (whole : length path ≡ numbers) (t
           ∙ ap (sets to 0) (to-lowest-said ring)
         where
           first-part : slice low (last + 1) path ≡ drop p ring
-          first-part = ap (λ (k : ℕ). slice k (last + 1) path) low-place ∙ sym (drop-drop p at (take (last + 1) path)) ∙ ap (drop p) ring-part
+          first-part =
+              ap (λ (k : ℕ). slice k (last + 1) path) low-place
+              ∙ sym (drop-drop p at (take (last + 1) path))
+              ∙ ap (drop p) ring-part
 
           second-part : slice at low path ≡ take p ring
           second-part =

@@ -39,8 +39,10 @@ same-sorted (Cycle m) (Cycle n) e = ap Cycle (ap count-of e)
 -- The premises below are the promises of src/order.rt, word for word.
 -- THEOREM: any two answers that `sort` promises for a table, a set and a buffer are equal, and so are the buffers left
 pub sort-determined : (table : List ℕ) (set : ℕ) (old : List ℕ) (a b : Sorted) (left right : List ℕ)
-    → sorted-says a ≡ length-of (sorted numbers (in-row table) (has set)) → left ≡ sets old 0 (members-of (sorted numbers (in-row table) (has set)))
-    → sorted-says b ≡ length-of (sorted numbers (in-row table) (has set)) → right ≡ sets old 0 (members-of (sorted numbers (in-row table) (has set)))
+    → sorted-says a ≡ length-of (sorted numbers (in-row table) (has set))
+    → left ≡ sets old 0 (members-of (sorted numbers (in-row table) (has set)))
+    → sorted-says b ≡ length-of (sorted numbers (in-row table) (has set))
+    → right ≡ sets old 0 (members-of (sorted numbers (in-row table) (has set)))
     → (a ≡ b) × (left ≡ right)
 sort-determined table set old a b left right p q r s = (same-sorted a b (p ∙ sym r), q ∙ sym s)
 

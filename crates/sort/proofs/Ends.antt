@@ -1,5 +1,5 @@
--- How the sort ends. Nobody left: the rule gives the line, and it is what was placed. Somebody left: the rule gives a cycle, and the walk by
--- the predecessors that were kept is the rule's walk, since in a rest where nobody is ready these are the lowest. Assumes nothing.
+-- How the sort ends. Nobody left: the rule gives the line, and it is what was placed. Somebody left: the rule gives a cycle, and the walk
+-- by the predecessors that were kept is the rule's walk, since in a rest where nobody is ready these are the lowest. Assumes nothing.
 use Prim.Native.Nat.{ℕ, zero, suc, _+_, _<_, _≤_}
 use native.Mathlib.Omega.{arith}
 use mathlib.Core.Path.{_≡_, refl, sym, _∙_, ap, fun-ext}
@@ -17,12 +17,14 @@ use Rattle.sort.proofs.Clauses.{placed-zero, placed-none, placed-some, 
 use Rattle.sort.proofs.Clauses.{walk-ends, walk-goes}
 
 -- two walks that go the same way from everybody of a set, and never leave it
-pub walk-same : (f g : ℕ → Option ℕ) (p : ℕ → Bool) → ((t : ℕ) → p t ≡ true → f t ≡ g t) → ((t s : ℕ) → p t ≡ true → f t ≡ some s → p s ≡ true)
+pub walk-same : (f g : ℕ → Option ℕ) (p : ℕ → Bool) → ((t : ℕ) → p t ≡ true → f t ≡ g t)
+    → ((t s : ℕ) → p t ≡ true → f t ≡ some s → p s ≡ true)
     → (m t : ℕ) (path : List ℕ) → p t ≡ true → walk f m t path ≡ walk g m t path
 walk-same f g p e stays zero t path h = walk-zero f t path ∙ sym (walk-zero g t path)
 walk-same f g p e stays (suc m) t path h = go (f t) refl (λ s k. walk-same f g p e stays m s (s ∷ path) k)
   where
-    go : (o : Option ℕ) → f t ≡ o → ((s : ℕ) → p s ≡ true → walk f m s (s ∷ path) ≡ walk g m s (s ∷ path)) → walk f (suc m) t path ≡ walk g (suc m) t path
+    go : (o : Option ℕ) → f t ≡ o → ((s : ℕ) → p s ≡ true → walk f m s (s ∷ path) ≡ walk g m s (s ∷ path))
+        → walk f (suc m) t path ≡ walk g (suc m) t path
     go none q ih = walk-lost f m t path q ∙ sym (walk-lost g m t path (sym (e t h) ∙ q))
     go (some s) q ih = met (among path s) refl
       where
@@ -35,7 +37,8 @@ placed-length : (n : ℕ) (edge : ℕ → ℕ → Bool) (m : ℕ) (left : ℕ �
 placed-length n edge zero left = rw (placed-zero n edge left) (omega arith)
 placed-length n edge (suc m) left = go (next n edge left) refl (λ t. placed-length n edge m (without left t))
   where
-    go : (o : Option ℕ) → next n edge left ≡ o → ((t : ℕ) → length (placed n edge m (without left t)) ≤ m) → length (placed n edge (suc m) left) ≤ suc m
+    go : (o : Option ℕ) → next n edge left ≡ o → ((t : ℕ) → length (placed n edge m (without left t)) ≤ m)
+        → length (placed n edge (suc m) left) ≤ suc m
     go none e ih = rw (placed-none n edge (suc m) left e) (omega arith)
     go (some t) e ih = rw (placed-some n edge m left t e) (omega (arith, ih t))
 

@@ -64,7 +64,15 @@ twice-split (x ∷ xs) ys h = after (twice-split xs ys (h .1))
     apart f = let e = sym (among-append xs ys x) ∙ f in (or-left (among xs x) (among ys x) e, or-right (among xs x) (among ys x) e)
 
     after : NoneTwice xs × NoneTwice ys × Apart xs ys → NoneTwice (x ∷ xs) × NoneTwice ys × Apart (x ∷ xs) ys
-    after w = ((apart (h .0) .0, w .0), w .1, λ t a. ⊎-elim (λ (e : x ≡ t). ap (among ys) (sym e) ∙ apart (h .0) .1) (λ (e : among xs t ≡ true). w .2 t e) (among-cases x xs t a))
+    after w = (
+      (apart (h .0) .0, w .0),
+      w .1,
+      λ t a.
+          ⊎-elim
+          (λ (e : x ≡ t). ap (among ys) (sym e) ∙ apart (h .0) .1)
+          (λ (e : among xs t ≡ true). w .2 t e)
+          (among-cases x xs t a),
+    )
 
 pub twice-join : (xs ys : List ℕ) → NoneTwice xs → NoneTwice ys → Apart xs ys → NoneTwice (xs ++ ys)
 twice-join [] ys h k a = k
@@ -162,7 +170,9 @@ among-entry (x ∷ xs) (suc k) l = among-later x xs (getD xs k 0) (among-entry x
 pub pigeonhole : (n : ℕ) (p : ℕ → Bool) (xs : List ℕ) → NoneTwice xs → ((t : ℕ) → among xs t ≡ true → (t < n) × (p t ≡ true))
     → length xs ≤ count-below n p
 pigeonhole n p [] h m = omega arith
-pigeonhole n p (x ∷ xs) h m = rw (count-without p x n (m x (among-first x xs) .0) (m x (among-first x xs) .1)) (more (pigeonhole n (λ s. p s && not (eqb x s)) xs (h .1) others))
+pigeonhole n p (x ∷ xs) h m =
+    let first = m x (among-first x xs) in
+    rw (count-without p x n (first .0) (first .1)) (more (pigeonhole n (λ s. p s && not (eqb x s)) xs (h .1) others))
   where
     more : length xs ≤ count-below n (λ s. p s && not (eqb x s)) → suc (length xs) ≤ suc (count-below n (λ s. p s && not (eqb x s)))
     more l = omega (arith, l)

@@ -16,12 +16,16 @@ use Rattle.sort.proofs.Rings.{lowest-in, lowest-low}
 -- a list written after another
 pub sets-append : (xs ys to : List ℕ) (at : ℕ) → sets to at (xs ++ ys) ≡ sets (sets to at xs) (at + length xs) ys
 sets-append [] ys to at = ap (λ (k : ℕ). sets to k ys) (omega arith)
-sets-append (x ∷ xs) ys to at = sets-append xs ys (set to at x) (suc at) ∙ ap (λ (k : ℕ). sets (sets (set to at x) (suc at) xs) k ys) (omega arith)
+sets-append (x ∷ xs) ys to at =
+    sets-append xs ys (set to at x) (suc at)
+    ∙ ap (λ (k : ℕ). sets (sets (set to at x) (suc at) xs) k ys) (omega arith)
 
 -- a part grows by one
-slice-more : (from : List ℕ) (start k : ℕ) → start ≤ k → k < length from → slice start (suc k) from ≡ slice start k from ++ getD from k 0 ∷ []
+slice-more : (from : List ℕ) (start k : ℕ) → start ≤ k → k < length from
+    → slice start (suc k) from ≡ slice start k from ++ getD from k 0 ∷ []
 slice-more from start k l m =
-    ap (drop start) (take-suc from k 0 m) ∙ drop-append-le start (take k from) (getD from k 0 ∷ []) (rw (length-take-le k from (omega (arith, m))) l)
+    ap (drop start) (take-suc from k 0 m)
+    ∙ drop-append-le start (take k from) (getD from k 0 ∷ []) (rw (length-take-le k from (omega (arith, m))) l)
 
 pub part-none : (from to : List ℕ) (start at : ℕ) → to ≡ sets to at (slice start start from)
 part-none from to start at = sym (ap (sets to at) (slice-empty start from))
@@ -76,11 +80,16 @@ lowest-place-is xs k l f g = place-is (lowest xs) xs k l same (λ j m e. omega (
 
     same : getD xs k 0 ≡ lowest xs
     same =
-        omega
-        (arith, lowest-low xs (getD xs k 0) (among-entry xs k l), f (place-of (lowest xs) xs) (place-low (lowest xs) xs there), place-entry (lowest xs) xs there)
+        omega (
+          arith,
+          lowest-low xs (getD xs k 0) (among-entry xs k l),
+          f (place-of (lowest xs) xs) (place-low (lowest xs) xs there),
+          place-entry (lowest xs) xs there,
+        )
 
 pub part-lowest : (buffer : List ℕ) (at end low : ℕ) → end ≤ length buffer → at ≤ low → low < end
-    → ((j : ℕ) → at ≤ j → j < end → getD buffer low 0 ≤ getD buffer j 0) → ((j : ℕ) → at ≤ j → j < low → getD buffer low 0 < getD buffer j 0)
+    → ((j : ℕ) → at ≤ j → j < end → getD buffer low 0 ≤ getD buffer j 0)
+    → ((j : ℕ) → at ≤ j → j < low → getD buffer low 0 < getD buffer j 0)
     → low ≡ at + place-of (lowest (slice at end buffer)) (slice at end buffer)
 part-lowest buffer at end low fits a l f g = omega (arith, a, lowest-place-is (slice at end buffer) (low - at) inside all before)
   where

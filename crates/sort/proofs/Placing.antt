@@ -40,7 +40,8 @@ stands-later : (x : ℕ) (xs : List ℕ) (s t : ℕ) → stands-before xs s t �
 unfolding stands-before
 stands-later x xs s t h = or-hit-right (eqb x s && among xs t) (stands-before xs s t) h
 
-stands-cases : (x : ℕ) (xs : List ℕ) (s t : ℕ) → stands-before (x ∷ xs) s t ≡ true → ((x ≡ s) × (among xs t ≡ true)) ⊎ (stands-before xs s t ≡ true)
+stands-cases : (x : ℕ) (xs : List ℕ) (s t : ℕ) → stands-before (x ∷ xs) s t ≡ true
+    → ((x ≡ s) × (among xs t ≡ true)) ⊎ (stands-before xs s t ≡ true)
 unfolding stands-before
 stands-cases x xs s t h =
     ⊎-elim
@@ -52,12 +53,17 @@ stands-cases x xs s t h =
 stands-among : (xs : List ℕ) (s t : ℕ) → stands-before xs s t ≡ true → among xs t ≡ true
 stands-among [] s t h = absurd (clash (stands-before [] s t) h (stands-nil s t))
 stands-among (x ∷ xs) s t h =
-    ⊎-elim (λ (w : (x ≡ s) × (among xs t ≡ true)). among-later x xs t (w .1)) (λ (w : stands-before xs s t ≡ true). among-later x xs t (stands-among xs s t w))
+    ⊎-elim
+    (λ (w : (x ≡ s) × (among xs t ≡ true)). among-later x xs t (w .1))
+    (λ (w : stands-before xs s t ≡ true). among-later x xs t (stands-among xs s t w))
     (stands-cases x xs s t h)
 
 after-first : (x : ℕ) (xs : List ℕ) (s t : ℕ) → stands-before (x ∷ xs) s t ≡ true → among xs t ≡ true
 after-first x xs s t h =
-    ⊎-elim (λ (w : (x ≡ s) × (among xs t ≡ true)). w .1) (λ (w : stands-before xs s t ≡ true). stands-among xs s t w) (stands-cases x xs s t h)
+    ⊎-elim
+    (λ (w : (x ≡ s) × (among xs t ≡ true)). w .1)
+    (λ (w : stands-before xs s t ≡ true). stands-among xs s t w)
+    (stands-cases x xs s t h)
 
 stands-not-itself : (xs : List ℕ) (t : ℕ) → NoneTwice xs → stands-before xs t t ≡ true → ⊥
 stands-not-itself [] t d h = clash (stands-before [] t t) h (stands-nil t t)
@@ -66,15 +72,25 @@ stands-not-itself (x ∷ xs) t d h =
     (λ (w : stands-before xs t t ≡ true). stands-not-itself xs t (d .1) w)
     (stands-cases x xs t t h)
 
-stands-through : (xs : List ℕ) (r s t : ℕ) → NoneTwice xs → stands-before xs r s ≡ true → stands-before xs s t ≡ true → stands-before xs r t ≡ true
+stands-through : (xs : List ℕ) (r s t : ℕ) → NoneTwice xs → stands-before xs r s ≡ true → stands-before xs s t ≡ true
+    → stands-before xs r t ≡ true
 stands-through [] r s t d h k = absurd (clash (stands-before [] r s) h (stands-nil r s))
 stands-through (x ∷ xs) r s t d h k =
-    ⊎-elim (λ (w : (x ≡ s) × (among xs t ≡ true)). absurd (clash (among xs x) (ap (among xs) (w .0) ∙ after-first x xs r s h) (d .0)))
-    (λ (w : stands-before xs s t ≡ true). ⊎-elim
-    (λ (v : (x ≡ r) × (among xs s ≡ true)). subst (λ (y : ℕ). stands-before (x ∷ xs) y t ≡ true) (v .0) (stands-first x xs t (stands-among xs s t w)))
-    (λ (v : stands-before xs r s ≡ true). stands-later x xs r t (stands-through xs r s t (d .1) v w))
-    (stands-cases x xs r s h))
+    ⊎-elim
+    (λ (w : (x ≡ s) × (among xs t ≡ true)). absurd (clash (among xs x) (ap (among xs) (w .0) ∙ after-first x xs r s h) (d .0)))
+    (λ (w : stands-before xs s t ≡ true). both-later w (λ v. stands-through xs r s t (d .1) v w))
     (stands-cases x xs s t k)
+  where
+    from-first : x ≡ r → among xs t ≡ true → stands-before (x ∷ xs) r t ≡ true
+    from-first q a = subst (λ (y : ℕ). stands-before (x ∷ xs) y t ≡ true) q (stands-first x xs t a)
+
+    both-later : stands-before xs s t ≡ true → (stands-before xs r s ≡ true → stands-before xs r t ≡ true)
+        → stands-before (x ∷ xs) r t ≡ true
+    both-later w ih =
+        ⊎-elim
+        (λ (v : (x ≡ r) × (among xs s ≡ true)). from-first (v .0) (stands-among xs s t w))
+        (λ (v : stands-before xs r s ≡ true). stands-later x xs r t (ih v))
+        (stands-cases x xs r s h)
 
 module _ (edge : ℕ → ℕ → Bool) where
   -- of a set with somebody in the list, one stands first in it
@@ -88,8 +104,15 @@ module _ (edge : ℕ → ℕ → Bool) where
       go : (b : Bool) → left x ≡ b → ((x ≡ u → ⊥) → FirstOf left xs) → FirstOf left (x ∷ xs)
       go true e w = (x, e, λ s h. absurd (clash (among xs x) (after-first x xs s x h) (d .0)))
       go false e w =
-          let f = w (λ (q : x ≡ u). differ left u x l e (sym q)) in
-          (f .0, f .1, λ s h. ⊎-elim (λ (v : (x ≡ s) × (among xs (f .0) ≡ true)). ap left (sym (v .0)) ∙ e) (λ (v : stands-before xs s (f .0) ≡ true). f .2 s v) (stands-cases x xs s (f .0) h))
+          let f = w (λ (q : x ≡ u). differ left u x l e (sym q)) in (
+            f .0,
+            f .1,
+            λ s h.
+                ⊎-elim
+                (λ (v : (x ≡ s) × (among xs (f .0) ≡ true)). ap left (sym (v .0)) ∙ e)
+                (λ (v : stands-before xs s (f .0) ≡ true). f .2 s v)
+                (stands-cases x xs s (f .0) h),
+          )
 
   -- THEOREM: from a rest in which every member has a predecessor in the rest no line exists, neither of the rest nor of a set that has it
   pub no-line : (set left : ℕ → Bool) → Stuck edge left → ((t : ℕ) → left t ≡ true → set t ≡ true) → (xs : List ℕ) → Line edge set xs → ⊥
@@ -100,13 +123,16 @@ module _ (edge : ℕ → ℕ → Bool) where
       let s = stuck .waits t (f .1) .0 in
       let h = stuck .waits t (f .1) .1 in
       let there = predecessor-left edge left t s h in
-      clash (left s) there
-      (f .2 s (l .keeps-edges s t (is-within edge set s t (sub s there) (sub t (f .1)) (predecessor-other edge left t s h) (predecessor-edge edge left t s h))))
+      let other = predecessor-other edge left t s h in
+      let e = is-within edge set s t (sub s there) (sub t (f .1)) other (predecessor-edge edge left t s h) in
+      clash (left s) there (f .2 s (l .keeps-edges s t e))
 
   -- a line has no cycle: along a path of edges, each stands before the next
-  path-stands : (set : ℕ → Bool) (xs : List ℕ) → Line edge set xs → (i j : ℕ) → Precedes (edge-within edge set) i j → stands-before xs i j ≡ true
+  path-stands : (set : ℕ → Bool) (xs : List ℕ) → Line edge set xs → (i j : ℕ) → Precedes (edge-within edge set) i j
+      → stands-before xs i j ≡ true
   path-stands set xs l i j (by-edge e) = l .keeps-edges i j e
-  path-stands set xs l i j (edge-then {j = m} e p) = stands-through xs i m j (l .none-twice) (l .keeps-edges i m e) (path-stands set xs l m j p)
+  path-stands set xs l i j (edge-then {j = m} e p) =
+      stands-through xs i m j (l .none-twice) (l .keeps-edges i m e) (path-stands set xs l m j p)
 
   pub line-acyclic : (set : ℕ → Bool) (xs : List ℕ) → Line edge set xs → Acyclic (edge-within edge set)
   line-acyclic set xs l i p = stands-not-itself xs i (l .none-twice) (path-stands set xs l i i p)
@@ -121,25 +147,33 @@ module _ (edge : ℕ → ℕ → Bool) where
     low-without left t low s h = low s (still-left left t s h)
 
     -- what is made place by place is a line that keeps every edge
-    placed-first : (left : ℕ → Bool) (x : ℕ) (xs : List ℕ) → Below n left → ready n edge left x ≡ true → Line edge (without left x) xs → Line edge left (x ∷ xs)
-    placed-first left x xs low r l = record { none-twice = (l .all-and-only x ∙ without-itself left x, l .none-twice); all-and-only = λ t. members t (ℕ-discrete x t); keeps-edges = λ s t h. keeps s t h (ℕ-discrete x s) (ℕ-discrete x t) }
+    placed-first : (left : ℕ → Bool) (x : ℕ) (xs : List ℕ) → Below n left → ready n edge left x ≡ true → Line edge (without left x) xs
+        → Line edge left (x ∷ xs)
+    placed-first left x xs low r l =
+        record {
+          none-twice = (l .all-and-only x ∙ without-itself left x, l .none-twice);
+          all-and-only = λ t. members t (ℕ-discrete x t);
+          keeps-edges = λ s t h. keeps s t h (ℕ-discrete x s) (ℕ-discrete x t);
+        }
       where
         members : (t : ℕ) → Dec (x ≡ t) → among (x ∷ xs) t ≡ left t
         members t (yes q) = rw (← q) (among-first x xs ∙ sym (ready-left edge n left x r))
         members t (no q) = among-other x xs t q ∙ l .all-and-only t ∙ without-other left x t q
 
         keeps : (s t : ℕ) → edge-within edge left s t ≡ true → Dec (x ≡ s) → Dec (x ≡ t) → stands-before (x ∷ xs) s t ≡ true
-        keeps s t h (yes q) d = subst (λ (y : ℕ). stands-before (x ∷ xs) y t ≡ true) q (stands-first x xs t (l .all-and-only t ∙ without-other left x t (λ (e : x ≡ t). within-other edge left s t h (sym q ∙ e)) ∙ within-to edge left s t h))
+        keeps s t h (yes q) d =
+            let other : x ≡ t → ⊥ = λ e. within-other edge left s t h (sym q ∙ e) in
+            let later : among xs t ≡ true = l .all-and-only t ∙ without-other left x t other ∙ within-to edge left s t h in
+            subst (λ (y : ℕ). stands-before (x ∷ xs) y t ≡ true) q (stands-first x xs t later)
         keeps s t h (no q) (yes e) =
-            absurd
-            (clash (predecessor edge left x s)
-            (is-predecessor edge left x s (within-from edge left s t h) (λ (z : s ≡ x). q (sym z)) (ap (edge s) e ∙ within-edge edge left s t h))
-            (ready-free edge n left x r s (low s (within-from edge left s t h))))
+            let from = within-from edge left s t h in
+            let before = is-predecessor edge left x s from (λ (z : s ≡ x). q (sym z)) (ap (edge s) e ∙ within-edge edge left s t h) in
+            absurd (clash (predecessor edge left x s) before (ready-free edge n left x r s (low s from)))
         keeps s t h (no q) (no e) =
-            stands-later x xs s t
-            (l .keeps-edges s t
-            (is-within edge (without left x) s t (without-other left x s q ∙ within-from edge left s t h) (without-other left x t e ∙ within-to edge left s t h)
-            (within-other edge left s t h) (within-edge edge left s t h)))
+            let from = without-other left x s q ∙ within-from edge left s t h in
+            let to = without-other left x t e ∙ within-to edge left s t h in
+            let still = is-within edge (without left x) s t from to (within-other edge left s t h) (within-edge edge left s t h) in
+            stands-later x xs s t (l .keeps-edges s t still)
 
     pub steps-line : (left : ℕ → Bool) (xs : List ℕ) → Below n left → Steps left xs → Line edge left xs
     steps-line left [] low none-left =
@@ -159,7 +193,8 @@ module _ (edge : ℕ → ℕ → Bool) where
 
         blocks : (s : ℕ) → predecessor edge left x s ≡ true → ⊥
         blocks s h =
-            let e = is-within edge left s x (predecessor-left edge left x s h) there (predecessor-other edge left x s h) (predecessor-edge edge left x s h) in
+            let other = predecessor-other edge left x s h in
+            let e = is-within edge left s x (predecessor-left edge left x s h) there other (predecessor-edge edge left x s h) in
             clash (among xs x) (after-first x xs s x (l .keeps-edges s x e)) (l .none-twice .0)
 
     later-line : (left : ℕ → Bool) (x : ℕ) (xs : List ℕ) → Line edge left (x ∷ xs) → Line edge (without left x) xs
@@ -185,7 +220,8 @@ module _ (edge : ℕ → ℕ → Bool) where
       where
         go : (left : ℕ → Bool) (xs : List ℕ) → Below n left → Steps left xs → length xs ≡ count-below n left
         go left [] low gone = sym (count-none left n gone)
-        go left (x ∷ xs) low w = ap suc (go (without left x) xs (low-without left x low) (w .1)) ∙ sym (one-fewer left x n (low x there) there)
+        go left (x ∷ xs) low w =
+            ap suc (go (without left x) xs (low-without left x low) (w .1)) ∙ sym (one-fewer left x n (low x there) there)
           where
             there : left x ≡ true
             there = ready-left edge n left x (w .0)
@@ -195,7 +231,8 @@ module _ (edge : ℕ → ℕ → Bool) where
     rest-within zero left t h = sym (ap (λ (f : ℕ → Bool). f t) (rest-zero n edge left)) ∙ h
     rest-within (suc m) left t h = go (next n edge left) refl (λ u. rest-within m (without left u) t)
       where
-        go : (o : Option ℕ) → next n edge left ≡ o → ((u : ℕ) → rest n edge m (without left u) t ≡ true → without left u t ≡ true) → left t ≡ true
+        go : (o : Option ℕ) → next n edge left ≡ o → ((u : ℕ) → rest n edge m (without left u) t ≡ true → without left u t ≡ true)
+            → left t ≡ true
         go none e ih = sym (ap (λ (f : ℕ → Bool). f t) (rest-none n edge (suc m) left e)) ∙ h
         go (some u) e ih = still-left left u t (ih u (sym (ap (λ (f : ℕ → Bool). f t) (rest-some n edge m left u e)) ∙ h))
 
@@ -209,7 +246,8 @@ module _ (edge : ℕ → ℕ → Bool) where
     rest-ends (suc m) left c = go (next n edge left) refl (next-view edge n left) (λ u d. rest-ends m (without left u) d)
       where
         go : (o : Option ℕ) → next n edge left ≡ o → First (ready n edge left) n o
-            → ((u : ℕ) → count-below n (without left u) ≤ m → next n edge (rest n edge m (without left u)) ≡ none) → next n edge (rest n edge (suc m) left) ≡ none
+            → ((u : ℕ) → count-below n (without left u) ≤ m → next n edge (rest n edge m (without left u)) ≡ none)
+            → next n edge (rest n edge (suc m) left) ≡ none
         go none e v ih = ap (next n edge) (rest-none n edge (suc m) left e) ∙ e
         go (some u) e (first-some l r f) ih =
             ap (next n edge) (rest-some n edge m left u e) ∙ ih u (omega (arith, c, one-fewer left u n l (ready-left edge n left u r)))
@@ -220,18 +258,22 @@ module _ (edge : ℕ → ℕ → Bool) where
     placed-steps (suc m) left f = go (next n edge left) refl (next-view edge n left) (λ u. placed-steps m (without left u))
       where
         go : (o : Option ℕ) → next n edge left ≡ o → First (ready n edge left) n o
-            → ((u : ℕ) → ((t : ℕ) → rest n edge m (without left u) t ≡ false) → Steps (without left u) (placed n edge m (without left u))) → Steps left (placed n edge (suc m) left)
-        go none e v ih = rw (placed-none n edge (suc m) left e) (λ t. sym (ap (λ (g : ℕ → Bool). g t) (rest-none n edge (suc m) left e)) ∙ f t)
+            → ((u : ℕ) → ((t : ℕ) → rest n edge m (without left u) t ≡ false) → Steps (without left u) (placed n edge m (without left u)))
+            → Steps left (placed n edge (suc m) left)
+        go none e v ih =
+            rw (placed-none n edge (suc m) left e) (λ t. sym (ap (λ (g : ℕ → Bool). g t) (rest-none n edge (suc m) left e)) ∙ f t)
         go (some u) e (first-some l r g) ih =
             rw (placed-some n edge m left u e) (r, ih u (λ t. sym (ap (λ (g : ℕ → Bool). g t) (rest-some n edge m left u e)) ∙ f t))
 
     -- and is the smallest of all that are
     pub placed-smallest : (m : ℕ) (left : ℕ → Bool) (ys : List ℕ) → Steps left ys → AtMost (placed n edge m left) ys
     placed-smallest zero left ys w = rw (placed-zero n edge left) ended
-    placed-smallest (suc m) left ys w = go (next n edge left) refl (next-view edge n left) ys w (λ u zs. placed-smallest m (without left u) zs)
+    placed-smallest (suc m) left ys w =
+        go (next n edge left) refl (next-view edge n left) ys w (λ u zs. placed-smallest m (without left u) zs)
       where
         go : (o : Option ℕ) → next n edge left ≡ o → First (ready n edge left) n o → (ys : List ℕ) → Steps left ys
-            → ((u : ℕ) (zs : List ℕ) → Steps (without left u) zs → AtMost (placed n edge m (without left u)) zs) → AtMost (placed n edge (suc m) left) ys
+            → ((u : ℕ) (zs : List ℕ) → Steps (without left u) zs → AtMost (placed n edge m (without left u)) zs)
+            → AtMost (placed n edge (suc m) left) ys
         go none e v ys w ih = rw (placed-none n edge (suc m) left e) ended
         go (some u) e (first-some l r g) [] w ih = absurd (clash (left u) (ready-left edge n left u r) (w u))
         go (some u) e (first-some l r g) (y ∷ ys) w ih = rw (placed-some n edge m left u e) (lower (ℕ-discrete u y) (decLt y u))

@@ -39,14 +39,16 @@ module _ (r : ℕ → ℕ → Bool) where
   linked-path x (y ∷ ys) z h = edge-then (h .0) (linked-path y ys z (h .1))
 
   -- a ring may be turned
-  ring-turns : (xs : List ℕ) (y : ℕ) (ys : List ℕ) → Linked r ((xs ++ y ∷ ys) ++ take 1 (xs ++ y ∷ ys)) → Linked r (((y ∷ ys) ++ xs) ++ y ∷ [])
+  ring-turns : (xs : List ℕ) (y : ℕ) (ys : List ℕ) → Linked r ((xs ++ y ∷ ys) ++ take 1 (xs ++ y ∷ ys))
+      → Linked r (((y ∷ ys) ++ xs) ++ y ∷ [])
   ring-turns [] y ys h = subst (λ (zs : List ℕ). Linked r (zs ++ y ∷ [])) (sym (append-nil (y ∷ ys))) h
   ring-turns (x ∷ xs) y ys h =
       let w = linked-cut (x ∷ xs) y (ys ++ x ∷ []) (subst (Linked r) (append-assoc (x ∷ xs) (y ∷ ys) (x ∷ [])) h) in
       subst (Linked r) (sym (append-assoc (y ∷ ys) (x ∷ xs) (y ∷ []))) (linked-join (y ∷ ys) x (xs ++ y ∷ []) (w .1) (w .0))
 
 -- a cycle goes on for ever: whoever is in it precedes itself
-pub cycle-precedes : (edge : ℕ → ℕ → Bool) (set : ℕ → Bool) (x : ℕ) (xs : List ℕ) → Cycle edge set (x ∷ xs) → Precedes (edge-within edge set) x x
+pub cycle-precedes : (edge : ℕ → ℕ → Bool) (set : ℕ → Bool) (x : ℕ) (xs : List ℕ) → Cycle edge set (x ∷ xs)
+    → Precedes (edge-within edge set) x x
 cycle-precedes edge set x xs c = linked-path (edge-within edge set) x xs x (c .round)
 
 -- the links of a larger relation
@@ -71,7 +73,10 @@ lowest-low [] t a = absurd (clash (among [] t) a (among-nil t))
 lowest-low (x ∷ []) t a =
     ⊎-elim (λ (e : x ≡ t). omega (arith, e)) (λ (e : among [] t ≡ true). absurd (clash (among [] t) e (among-nil t))) (among-cases x [] t a)
 lowest-low (x ∷ y ∷ ys) t a =
-    ⊎-elim (λ (e : x ≡ t). omega (arith, e)) (λ (e : among (y ∷ ys) t ≡ true). omega (arith, lowest-low (y ∷ ys) t e)) (among-cases x (y ∷ ys) t a)
+    ⊎-elim
+    (λ (e : x ≡ t). omega (arith, e))
+    (λ (e : among (y ∷ ys) t ≡ true). omega (arith, lowest-low (y ∷ ys) t e))
+    (among-cases x (y ∷ ys) t a)
 
 -- two lists in the other order
 among-swap : (xs ys : List ℕ) (t : ℕ) → among (ys ++ xs) t ≡ true → among (xs ++ ys) t ≡ true
@@ -105,9 +110,12 @@ module _ (xs : List ℕ) where
     from-lowest = subst FromLowest to-lowest-said (go (place-of (lowest xs) xs) lowest-place (place-entry (lowest xs) xs lowest-in))
       where
         go : (k : ℕ) → k < length xs → getD xs k 0 ≡ lowest xs → FromLowest (turned k xs)
-        go k l e =
-            subst FromLowest (sym (turned-starts k l))
-            (λ t a. rw e (lowest-low xs t (turned-among k t (ap (λ (zs : List ℕ). among zs t) (turned-starts k l) ∙ among-later (getD xs k 0) (drop (suc k) xs ++ take k xs) t a))))
+        go k l e = subst FromLowest (sym (turned-starts k l)) (λ t a. rw e (lowest-low xs t (turned-among k t (after-first t a))))
+          where
+            after-first : (t : ℕ) → among (drop (suc k) xs ++ take k xs) t ≡ true → among (turned k xs) t ≡ true
+            after-first t a =
+                ap (λ (zs : List ℕ). among zs t) (turned-starts k l)
+                ∙ among-later (getD xs k 0) (drop (suc k) xs ++ take k xs) t a
 
 module _ (edge : ℕ → ℕ → Bool) where
   -- a cycle may be turned
@@ -128,7 +136,8 @@ module _ (edge : ℕ → ℕ → Bool) where
 
   pub to-lowest-cycle : (set : ℕ → Bool) (xs : List ℕ) → Cycle edge set xs → Cycle edge set (to-lowest xs)
   to-lowest-cycle set xs c =
-      subst (Cycle edge set) (to-lowest-said xs) (turned-cycle set xs (place-of (lowest xs) xs) (lowest-place xs (omega (arith, c .at-least-two))) c)
+      subst (Cycle edge set) (to-lowest-said xs)
+      (turned-cycle set xs (place-of (lowest xs) xs) (lowest-place xs (omega (arith, c .at-least-two))) c)
 
   -- who is on the path: nobody twice, all of them left, each with an edge to the next
   abbrev pub Path : (ℕ → Bool) → List ℕ → Type 0
@@ -137,14 +146,18 @@ module _ (edge : ℕ → ℕ → Bool) where
   module _ (left : ℕ → Bool) (t : ℕ) (tail : List ℕ) (p : Path left (t ∷ tail)) (s : ℕ) (before : predecessor edge left t s ≡ true) where
     link : edge-within edge left s t ≡ true
     link =
-        is-within edge left s t (predecessor-left edge left t s before) (p .1 t (among-first t tail)) (predecessor-other edge left t s before)
-        (predecessor-edge edge left t s before)
+        is-within edge left s t (predecessor-left edge left t s before) (p .1 t (among-first t tail))
+        (predecessor-other edge left t s before) (predecessor-edge edge left t s before)
 
     -- one more on the path
     pub path-grows : among (t ∷ tail) s ≡ false → Path left (s ∷ t ∷ tail)
     path-grows f = (
       (f, p .0),
-      λ u a. ⊎-elim (λ (e : s ≡ u). ap left (sym e) ∙ predecessor-left edge left t s before) (λ (e : among (t ∷ tail) u ≡ true). p .1 u e) (among-cases s (t ∷ tail) u a),
+      λ u a.
+          ⊎-elim
+          (λ (e : s ≡ u). ap left (sym e) ∙ predecessor-left edge left t s before)
+          (λ (e : among (t ∷ tail) u ≡ true). p .1 u e)
+          (among-cases s (t ∷ tail) u a),
       (link, p .2),
     )
 
@@ -156,12 +169,15 @@ module _ (edge : ℕ → ℕ → Bool) where
         go [] after e = absurd (predecessor-other edge left t s before (sym (ap (λ (xs : List ℕ). getD xs 0 0) e)))
         go (b ∷ bs) after e =
             let front = b ∷ bs in
+            let ring = front ++ s ∷ [] in
             let whole = e ∙ sym (append-assoc front (s ∷ []) after) in
             let first = ap (λ (xs : List ℕ). getD xs 0 0) e in
             record {
               at-least-two = rw (length-append front (s ∷ [])) (omega arith);
-              none-twice = twice-split (front ++ s ∷ []) after (subst NoneTwice whole (p .0)) .0;
-              members = λ u m. p .1 u (ap (λ (xs : List ℕ). among xs u) whole ∙ among-append (front ++ s ∷ []) after u ∙ or-hit-left (among (front ++ s ∷ []) u) (among after u) m);
+              none-twice = twice-split ring after (subst NoneTwice whole (p .0)) .0;
+              members = λ u m.
+                  let on-path = ap (λ (xs : List ℕ). among xs u) whole ∙ among-append ring after u in
+                  p .1 u (on-path ∙ or-hit-left (among ring u) (among after u) m);
               round =
                   subst (Linked (edge-within edge left)) (sym (append-assoc front (s ∷ []) (b ∷ [])))
                   (linked-join (edge-within edge left) front s (b ∷ [])
@@ -185,11 +201,21 @@ module _ (edge : ℕ → ℕ → Bool) where
     -- the walk, from any path on: where it would go on for longer than there are members, somebody comes twice
     pub walk-cycle : Below n left → Stuck edge left → (m t : ℕ) (tail : List ℕ) → Path left (t ∷ tail)
         → count-below n left < m + length (t ∷ tail) → Cycle edge left (walk (lowest-predecessor n edge left) m t (t ∷ tail))
-    walk-cycle low stuck zero t tail p c = absurd (omega (arith, c, pigeonhole n left (t ∷ tail) (p .0) (λ u a. (low u (p .1 u a), p .1 u a))))
-    walk-cycle low stuck (suc m) t tail p c = let f = lowest-found low stuck t (p .1 t (among-first t tail)) in go (f .0) (f .1) (f .2) (among (t ∷ tail) (f .0)) refl (λ s q d. walk-cycle low stuck m s (t ∷ tail) q d)
+    walk-cycle low stuck zero t tail p c =
+        absurd (omega (arith, c, pigeonhole n left (t ∷ tail) (p .0) (λ u a. (low u (p .1 u a), p .1 u a))))
+    walk-cycle low stuck (suc m) t tail p c =
+        let f = lowest-found low stuck t (p .1 t (among-first t tail)) in
+        go (f .0) (f .1) (f .2) (among (t ∷ tail) (f .0)) refl (λ s q d. walk-cycle low stuck m s (t ∷ tail) q d)
       where
-        go : (s : ℕ) → lowest-predecessor n edge left t ≡ some s → predecessor edge left t s ≡ true → (b : Bool) → among (t ∷ tail) s ≡ b
-            → ((s : ℕ) → Path left (s ∷ t ∷ tail) → count-below n left < m + length (s ∷ t ∷ tail) → Cycle edge left (walk (lowest-predecessor n edge left) m s (s ∷ t ∷ tail)))
-            → Cycle edge left (walk (lowest-predecessor n edge left) (suc m) t (t ∷ tail))
-        go s e q true a ih = subst (Cycle edge left) (sym (walk-ends (lowest-predecessor n edge left) m t s (t ∷ tail) e a)) (path-closes left t tail p s q a)
-        go s e q false a ih = subst (Cycle edge left) (sym (walk-goes (lowest-predecessor n edge left) m t s (t ∷ tail) e a)) (ih s (path-grows left t tail p s q a) (omega (arith, c)))
+        back : ℕ → Option ℕ
+        back = lowest-predecessor n edge left
+
+        Round : ℕ → ℕ → List ℕ → Type 0
+        Round k u path = Cycle edge left (walk back k u path)
+
+        go : (s : ℕ) → back t ≡ some s → predecessor edge left t s ≡ true → (b : Bool) → among (t ∷ tail) s ≡ b
+            → ((s : ℕ) → Path left (s ∷ t ∷ tail) → count-below n left < m + length (s ∷ t ∷ tail) → Round m s (s ∷ t ∷ tail))
+            → Round (suc m) t (t ∷ tail)
+        go s e q true a ih = subst (Cycle edge left) (sym (walk-ends back m t s (t ∷ tail) e a)) (path-closes left t tail p s q a)
+        go s e q false a ih =
+            subst (Cycle edge left) (sym (walk-goes back m t s (t ∷ tail) e a)) (ih s (path-grows left t tail p s q a) (omega (arith, c)))

@@ -36,8 +36,8 @@ module _ (edge : ℕ → ℕ → Bool) (all : ℕ → Bool) (blank : List ℕ) w
     pub place-room : (more t : ℕ) → ToPlace line left count more → next numbers edge left ≡ some t → 1 ≤ more
     place-room more t w e = let r = next-is edge numbers left t e in omega (arith, w .enough, count-some left numbers t (r .0) (r .1))
 
-    pub place-one : (more t : ℕ) (fewer : ℕ → Bool) → ToPlace line left count (suc more) → next numbers edge left ≡ some t → fewer ≡ without left t
-        → ToPlace (set line count t) fewer (count + 1) more
+    pub place-one : (more t : ℕ) (fewer : ℕ → Bool) → ToPlace line left count (suc more) → next numbers edge left ≡ some t
+        → fewer ≡ without left t → ToPlace (set line count t) fewer (count + 1) more
     place-one more t fewer w e q = subst (λ (f : ℕ → Bool). ToPlace (set line count t) f (count + 1) more) (sym q) placed-one
       where
         on : placed numbers edge (suc more) left ≡ t ∷ placed numbers edge more (without left t)

@@ -44,10 +44,14 @@ module _ (n : ℕ) (edge : ℕ → ℕ → Bool) where
 
     -- THEOREM: "the walk comes round within as many steps as there are members"
     pub walk-comes-round : (m : ℕ) → count-below n left ≤ m → Cycle edge left (walk (lowest-predecessor n edge left) m t (t ∷ []))
-    walk-comes-round m c =
-        walk-cycle edge n left low stuck m t []
-        ((among-nil t, tt), (λ u a. ⊎-elim (λ (e : t ≡ u). ap left (sym e) ∙ l) (λ (e : among [] u ≡ true). absurd (clash (among [] u) e (among-nil u))) (among-cases t [] u a)), tt)
-        (omega (arith, c))
+    walk-comes-round m c = walk-cycle edge n left low stuck m t [] ((among-nil t, tt), alone, tt) (omega (arith, c))
+      where
+        alone : (u : ℕ) → among (t ∷ []) u ≡ true → left u ≡ true
+        alone u a =
+            ⊎-elim
+            (λ (e : t ≡ u). ap left (sym e) ∙ l)
+            (λ (e : among [] u ≡ true). absurd (clash (among [] u) e (among-nil u)))
+            (among-cases t [] u a)
 
     ring-cycle : Cycle edge left ring
     ring-cycle = walk-comes-round n (count-low left n)
@@ -82,7 +86,8 @@ module _ (n : ℕ) (edge : ℕ → ℕ → Bool) where
     unfolding left-over
     left-stuck t l = none-next-stuck left-over t l low-left (rest-ends edge n n set (count-low set n))
 
-    cycle-means : (t : ℕ) → left-over t ≡ true → Means n edge set (cycle (to-lowest (walk (lowest-predecessor n edge left-over) n t (t ∷ []))))
+    cycle-means : (t : ℕ) → left-over t ≡ true
+        → Means n edge set (cycle (to-lowest (walk (lowest-predecessor n edge left-over) n t (t ∷ []))))
     unfolding left-over
     cycle-means t l =
         let stuck = left-stuck t l in
@@ -106,9 +111,13 @@ module _ (n : ℕ) (edge : ℕ → ℕ → Bool) where
 
     -- THEOREM: a line that keeps every edge exists exactly where the rule gives one ..
     pub line-where-given : ((xs : List ℕ) × Line edge set xs) ↔ ((xs : List ℕ) × (sorted n edge set ≡ line xs))
-    line-where-given = (λ w. given (w .0) (w .1) (sorted n edge set) refl sorted-means, λ w. (w .0, shown (w .0) (sorted n edge set) sorted-means (w .1)))
+    line-where-given = (
+      λ w. given (w .0) (w .1) (sorted n edge set) refl sorted-means,
+      λ w. (w .0, shown (w .0) (sorted n edge set) sorted-means (w .1)),
+    )
       where
-        given : (ys : List ℕ) → Line edge set ys → (o : LineOrCycle (List ℕ)) → sorted n edge set ≡ o → Means n edge set o → (xs : List ℕ) × (sorted n edge set ≡ line xs)
+        given : (ys : List ℕ) → Line edge set ys → (o : LineOrCycle (List ℕ)) → sorted n edge set ≡ o → Means n edge set o
+            → (xs : List ℕ) × (sorted n edge set ≡ line xs)
         given ys l (line xs) e w = (xs, e)
         given ys l (cycle xs) e w = absurd (w .3 ys l)
 

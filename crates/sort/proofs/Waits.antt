@@ -50,7 +50,8 @@ module _ (edge : ℕ → ℕ → Bool) (left : ℕ → Bool) where
       go (no q) = f u (omega (arith, l, q))
 
   -- the first that has one is the lowest predecessor
-  pub lowest-found : (t s : ℕ) → Free t s → s < numbers → left s ≡ true → (not (eqb s t) && edge s t) ≡ true → lowest-predecessor numbers edge left t ≡ some s
+  pub lowest-found : (t s : ℕ) → Free t s → s < numbers → left s ≡ true → (not (eqb s t) && edge s t) ≡ true
+      → lowest-predecessor numbers edge left t ≡ some s
   lowest-found t s f l h e =
       lowest-hit edge numbers left t s l f (sym (predecessor-said edge left t s) ∙ and-true (left s) (not (eqb s t) && edge s t) h e)
 
@@ -74,7 +75,8 @@ module _ (edge : ℕ → ℕ → Bool) (left : ℕ → Bool) where
       go (no m) = absurd (clash (left t) h (v .none-before t (omega (arith, m)) l))
 
   -- the answers of the search
-  pub ready-found : (waits : List ℕ) (t : ℕ) → Tried waits t → t < numbers → left t ≡ true → Free t numbers → next numbers edge left ≡ some t
+  pub ready-found : (waits : List ℕ) (t : ℕ) → Tried waits t → t < numbers → left t ≡ true → Free t numbers
+      → next numbers edge left ≡ some t
   ready-found waits t w l h f = next-hit edge numbers left t l (λ u m. tried-not-ready waits t u w m) (is-ready edge numbers left t h f)
 
   pub none-found : (waits : List ℕ) → Tried waits numbers → next numbers edge left ≡ none
@@ -96,7 +98,9 @@ module _ (edge : ℕ → ℕ → Bool) (left : ℕ → Bool) where
     passed-store p f u e l = go (ℕ-discrete u t)
       where
         go : Dec (u ≡ t) → predecessor edge left u e ≡ false
-        go (yes q) = ap (λ (x : ℕ). predecessor edge left x e) q ∙ f e (subst (λ (x : ℕ). e < x) (ap (λ (x : ℕ). getD (set waits t s) x 0) q ∙ stored) l)
+        go (yes q) =
+            let is-stored : getD (set waits t s) u 0 ≡ s = ap (λ (x : ℕ). getD (set waits t s) x 0) q ∙ stored in
+            ap (λ (x : ℕ). predecessor edge left x e) q ∙ f e (subst (λ (x : ℕ). e < x) is-stored l)
         go (no q) = p u e (subst (λ (x : ℕ). e < x) (getD-set-other waits t u s 0 q) l)
 
     pub tried-store : Tried waits t → lowest-predecessor numbers edge left t ≡ some s → Tried (set waits t s) (t + 1)
@@ -118,8 +122,9 @@ module _ (waits : List ℕ) (blank : (t : ℕ) → _≡_ {A = ℕ} (getD waits t
 pub passed-fewer : (edge : ℕ → ℕ → Bool) (left fewer : ℕ → Bool) (waits : List ℕ) → ((s : ℕ) → fewer s ≡ true → left s ≡ true)
     → Passed edge left waits → Passed edge fewer waits
 passed-fewer edge left fewer waits m p t s l =
-    refuted (predecessor edge fewer t s)
-    (λ h.
-    clash (predecessor edge left t s)
-    (is-predecessor edge left t s (m s (predecessor-left edge fewer t s h)) (predecessor-other edge fewer t s h) (predecessor-edge edge fewer t s h))
-    (p t s l))
+    refuted (predecessor edge fewer t s) (λ h. clash (predecessor edge left t s) (was-one h) (p t s l))
+  where
+    was-one : predecessor edge fewer t s ≡ true → predecessor edge left t s ≡ true
+    was-one h =
+        is-predecessor edge left t s (m s (predecessor-left edge fewer t s h)) (predecessor-other edge fewer t s h)
+        (predecessor-edge edge fewer t s h)

@@ -41,18 +41,27 @@ module _ (waits : List ℕ) (first : ℕ) where
     pub next-one : again ≡ getD waits here 0
     pub same-walk : walk (back waits) (suc at) here (here ∷ before) ≡ walk (back waits) numbers first (first ∷ [])
 
-  pub path-start : (path : List ℕ) (seen again : ℕ) → length path ≡ numbers → first < numbers → ((t : ℕ) → has seen t ≡ (has 0 t || eqb first t))
-      → again ≡ getD waits first 0 → OnPath (set path 63 first) 63 seen again
+  pub path-start : (path : List ℕ) (seen again : ℕ) → length path ≡ numbers → first < numbers
+      → ((t : ℕ) → has seen t ≡ (has 0 t || eqb first t)) → again ≡ getD waits first 0 → OnPath (set path 63 first) 63 seen again
   path-start path seen again w l h e =
       record {
         whole = simp length-set w;
         inside = omega arith;
         here = first;
         before = [];
-        is-path = front path 63 first w (omega arith) ∙ ap (λ (xs : List ℕ). first ∷ xs) (drop-of-length-le path {i = 64} (omega (arith, w)));
+        is-path =
+            front path 63 first w (omega arith)
+            ∙ ap (λ (xs : List ℕ). first ∷ xs) (drop-of-length-le path {i = 64} (omega (arith, w)));
         none-twice = (among-nil first, tt);
-        all-low = λ t a. ⊎-elim (λ (q : first ≡ t). omega (arith, l, q)) (λ (q : among [] t ≡ true). absurd (clash (among [] t) q (among-nil t))) (among-cases first [] t a);
-        seen-are = λ t. h t ∙ ap (λ (b : Bool). b || eqb first t) (has-zero t) ∙ sym (among-cons first [] t ∙ ap (λ (b : Bool). eqb first t || b) (among-nil t) ∙ or-nothing (eqb first t));
+        all-low = λ t a.
+            ⊎-elim
+            (λ (q : first ≡ t). omega (arith, l, q))
+            (λ (q : among [] t ≡ true). absurd (clash (among [] t) q (among-nil t)))
+            (among-cases first [] t a);
+        seen-are = λ t.
+            h t
+            ∙ ap (λ (b : Bool). b || eqb first t) (has-zero t)
+            ∙ sym (among-cons first [] t ∙ ap (λ (b : Bool). eqb first t || b) (among-nil t) ∙ or-nothing (eqb first t));
         next-one = e;
         same-walk = refl;
       }
@@ -74,24 +83,41 @@ module _ (waits : List ℕ) (first : ℕ) where
       longer = (fresh, w .none-twice)
 
       longer-low : (t : ℕ) → among (again ∷ w .here ∷ w .before) t ≡ true → t < numbers
-      longer-low t a = ⊎-elim (λ (q : again ≡ t). omega (arith, again-low, q)) (λ (q : among (w .here ∷ w .before) t ≡ true). w .all-low t q) (among-cases again (w .here ∷ w .before) t a)
+      longer-low t a =
+          ⊎-elim
+          (λ (q : again ≡ t). omega (arith, again-low, q))
+          (λ (q : among (w .here ∷ w .before) t ≡ true). w .all-low t q)
+          (among-cases again (w .here ∷ w .before) t a)
 
       pub path-room : 1 ≤ at
       path-room =
-          omega
-          (arith, pigeonhole numbers (λ t. true) (again ∷ w .here ∷ w .before) longer (λ t a. (longer-low t a, refl)), count-low (λ t. true) numbers, sym (ap length (w .is-path)) ∙ length-drop at path, w .whole, w .inside)
+          omega (
+            arith,
+            pigeonhole numbers (λ t. true) (again ∷ w .here ∷ w .before) longer (λ t a. (longer-low t a, refl)),
+            count-low (λ t. true) numbers,
+            sym (ap length (w .is-path)) ∙ length-drop at path,
+            w .whole,
+            w .inside,
+          )
 
-      pub path-step : (more again′ : ℕ) → ((t : ℕ) → has more t ≡ (has seen t || eqb again t)) → again′ ≡ getD waits again 0 → OnPath (set path (at - 1) again) (at - 1) more again′
+      pub path-step : (more again′ : ℕ) → ((t : ℕ) → has more t ≡ (has seen t || eqb again t)) → again′ ≡ getD waits again 0
+          → OnPath (set path (at - 1) again) (at - 1) more again′
       path-step more again′ h e =
           record {
             whole = simp length-set (w .whole);
             inside = omega (arith, w .inside);
             here = again;
             before = w .here ∷ w .before;
-            is-path = front path (at - 1) again (w .whole) (omega (arith, w .inside)) ∙ ap (λ (xs : List ℕ). again ∷ xs) (ap (λ (k : ℕ). drop k path) down ∙ w .is-path);
+            is-path =
+                front path (at - 1) again (w .whole) (omega (arith, w .inside))
+                ∙ ap (λ (xs : List ℕ). again ∷ xs) (ap (λ (k : ℕ). drop k path) down ∙ w .is-path);
             none-twice = longer;
             all-low = longer-low;
-            seen-are = λ t. h t ∙ ap (λ (b : Bool). b || eqb again t) (w .seen-are t) ∙ or-swap (among (w .here ∷ w .before) t) (eqb again t) ∙ sym (among-cons again (w .here ∷ w .before) t);
+            seen-are = λ t.
+                h t
+                ∙ ap (λ (b : Bool). b || eqb again t) (w .seen-are t)
+                ∙ or-swap (among (w .here ∷ w .before) t) (eqb again t)
+                ∙ sym (among-cons again (w .here ∷ w .before) t);
             next-one = e;
             same-walk =
                 ap (λ (k : ℕ). walk (back waits) k again (again ∷ w .here ∷ w .before)) down

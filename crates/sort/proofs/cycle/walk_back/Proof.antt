@@ -42,8 +42,8 @@ loop-holds : tie.Need-loop-holds Inv-loop μ-loop
 loop-holds c =
     let s = c .before .before in
     let a = s .args in
-    path-start (now (a .waits)) (a .first) (now (a .path)) (c .before .with-member .result) (getD (now (a .waits)) (a .first) 0) (s .pre .1 .1) (s .pre .1 .0)
-    (c .before .with-member .ensures) refl
+    path-start (now (a .waits)) (a .first) (now (a .path)) (c .before .with-member .result) (getD (now (a .waits)) (a .first) 0)
+    (s .pre .1 .1) (s .pre .1 .0) (c .before .with-member .ensures) refl
 
 -- at the test
 module _ (c : tie.At-loop Inv-loop μ-loop) where
@@ -107,7 +107,8 @@ cast-t7 c = omega (arith, low (c .before .before))
 returns : tie.Need-returns Inv-loop μ-loop
 returns c =
     let e = c .before .before in
-    let old : has (e .loop .seen) (e .loop .again) ≡ true = sym (c .before .has-member .ensures) ∙ not-false (c .before .has-member .result) (c .if1 .left) in (
+    let at-test = c .before .has-member in
+    let old : has (e .loop .seen) (e .loop .again) ≡ true = sym (at-test .ensures) ∙ not-false (at-test .result) (c .if1 .left) in (
       e .loop .inv .whole,
       (
         comes-again (waits e) (first e) (kept e) (e .loop .path) (e .loop .at) (e .loop .seen) (e .loop .again) (e .loop .inv) old,

@@ -20,7 +20,10 @@ use Rattle.sort.proofs.line.place_all.Tie as tie
 
 abbrev Inv-loop : tie.InvT-loop
 Inv-loop table set waits₀ line₀ left₀ count₀ waits line left count =
-    (count ≤ numbers) × ToPlace (in-row table) (has set) line₀ line (has left) count (numbers - count) × Kept waits × Passed (in-row table) (has left) waits
+    (count ≤ numbers)
+    × ToPlace (in-row table) (has set) line₀ line (has left) count (numbers - count)
+    × Kept waits
+    × Passed (in-row table) (has left) waits
 
 abbrev μ-loop : tie.MeasureT-loop
 μ-loop table set waits₀ line₀ left₀ count₀ waits line left count = numbers - count
@@ -90,8 +93,9 @@ module _ (c : tie.After-t Inv-loop μ-loop) where
 
   room : count s < numbers
   room =
-      omega
-      (arith, s .before .before .loop .inv .0, place-room (edge s) (set s) (blank s) (line s) (has (left s)) (count s) (numbers - count s) t (s .before .before .loop .inv .1) is-next)
+      let l = s .before .before .loop in
+      let more = place-room (edge s) (set s) (blank s) (line s) (has (left s)) (count s) (numbers - count s) t (l .inv .1) is-next in
+      omega (arith, l .inv .0, more)
 
 cast-line : tie.Need-cast-line Inv-loop μ-loop
 cast-line c = omega (arith, low (c .before))
@@ -116,7 +120,8 @@ loop-again c =
     let fewer = taken (left e) (c .without-member .result) (t f) (c .without-member .ensures) in
     let one-more : numbers - count e ≡ suc (numbers - (count e + 1)) = omega (arith, room f) in (
       omega (arith, room f),
-      place-one (edge e) (set e) (blank e) (line e) (has (left e)) (count e) (numbers - (count e + 1)) (t f) (has (c .without-member .result))
+      place-one (edge e) (set e) (blank e) (line e) (has (left e)) (count e) (numbers - (count e + 1)) (t f)
+          (has (c .without-member .result))
           (subst (ToPlace (edge e) (set e) (blank e) (line e) (has (left e)) (count e)) one-more (l .inv .1)) (is-next f) fewer,
       e .lowest-ready .ensures .1 .0,
       passed-fewer (edge e) (has (left e)) (has (c .without-member .result)) (e .lowest-ready .last .1 .1 .0)

@@ -21,8 +21,10 @@ use Rattle.sort.proofs.order.sort.Tie as tie
 place-all-requires : tie.Need-place-all-requires
 place-all-requires c κs =
     let a = c .before .before .args in
-    let blank = replicate {A = ℕ} 64 0 in
-    (kept-start blank (empty-entry 64) (length-replicate {A = ℕ} 64 0), passed-start blank (empty-entry 64) (in-row (now (a .table))) (has (a .set)))
+    let blank = replicate {A = ℕ} 64 0 in (
+      kept-start blank (empty-entry 64) (length-replicate {A = ℕ} 64 0),
+      passed-start blank (empty-entry 64) (in-row (now (a .table))) (has (a .set)),
+    )
 
 member-from-requires : tie.Need-member-from-requires
 member-from-requires c κs = search needs
@@ -67,14 +69,17 @@ module _ (c : tie.After-member-from) where
   fits = rw counted (line-fits edge set)
 
 write-part-requires : tie.Need-write-part-requires
-write-part-requires c κs = let m = c .before .before .before in (buffer-whole m, ((omega arith, omega (arith, fits m)), omega (arith, fits m)))
+write-part-requires c κs =
+    let m = c .before .before .before in
+    (buffer-whole m, ((omega arith, omega (arith, fits m)), omega (arith, fits m)))
 
 returns : tie.Need-returns
 returns c =
     let t = c .before .before .before in
     let m = t .before in
     let to = now (m .before .before .before .before .args .members) in
-    let is-line = ends-in-line (edge m) (set m) (left m) (same-rest m) (subst (FirstFrom (left m) 0 numbers) (t .if1 .taken) (first-left m)) in (
+    let nobody = subst (FirstFrom (left m) 0 numbers) (t .if1 .taken) (first-left m) in
+    let is-line = ends-in-line (edge m) (set m) (left m) (same-rest m) nobody in (
       ap line (counted m) ∙ sym (ap length-of is-line),
       c .write-part .ensures
           ∙ ap (λ (xs : List ℕ). sets to 0 (slice 0 (m .before .place-all .result .count) xs)) (is-placed m)
@@ -95,8 +100,9 @@ returns-2 c =
     let e = c .before .before .before in
     let m = e .before in
     let to = now (m .before .before .before .before .args .members) in
-    let is-cycle =
-    ends-in-cycle (edge m) (set m) (left m) (same-rest m) (m .before .place-all .last .1 .1 .0) (m .before .place-all .ensures .1 .1 .1 .1) (first m) (first-left m) (low e) in (
+    let waits = m .before .place-all .last .1 .1 .0 in
+    let blocked = m .before .place-all .ensures .1 .1 .1 .1 in
+    let is-cycle = ends-in-cycle (edge m) (set m) (left m) (same-rest m) waits blocked (first m) (first-left m) (low e) in (
       ap cycle (c .write-cycle .ensures .0) ∙ sym (ap length-of is-cycle),
       c .write-cycle .ensures .1 ∙ sym (ap (λ (o : LineOrCycle (List ℕ)). sets to 0 (members-of o)) is-cycle),
     )

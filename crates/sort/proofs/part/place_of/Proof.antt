@@ -36,8 +36,10 @@ loop-less c = omega (arith, inside (c .before .before))
 loop-again : tie.Need-loop-again Inv-loop μ-loop
 loop-again c =
     let l = c .before .before .loop in
-    let s = c .before .before .before in
-    (omega (arith, l .inv .0), place-on (now (s .args .buffer)) (s .args .at) (s .args .t) (s .pre .1) (l .k) (l .inv .0) (l .inv .1) (c .if1 .taken))
+    let s = c .before .before .before in (
+      omega (arith, l .inv .0),
+      place-on (now (s .args .buffer)) (s .args .at) (s .args .t) (s .pre .1) (l .k) (l .inv .0) (l .inv .1) (c .if1 .taken),
+    )
 
 returns : tie.Need-returns Inv-loop μ-loop
 returns c =

@@ -14,7 +14,9 @@ use Rattle.sort.proofs.part.place_of_lowest.Tie as tie
 
 abbrev LowestTo : List ℕ → ℕ → ℕ → ℕ → Type 0
 LowestTo buffer at low k =
-    (at ≤ low) × ((j : ℕ) → at ≤ j → j < k → getD buffer low 0 ≤ getD buffer j 0) × ((j : ℕ) → at ≤ j → j < low → getD buffer low 0 < getD buffer j 0)
+    (at ≤ low)
+    × ((j : ℕ) → at ≤ j → j < k → getD buffer low 0 ≤ getD buffer j 0)
+    × ((j : ℕ) → at ≤ j → j < low → getD buffer low 0 < getD buffer j 0)
 
 abbrev Inv-loop : tie.InvT-loop
 Inv-loop buffer at end low₀ k₀ low k = (low < end) × (at ≤ k) × (k ≤ end) × LowestTo buffer at low k
@@ -64,9 +66,13 @@ loop-again c =
     let at = s .args .at in
     let end = s .args .end in
     let Next : ℕ → Type 0 = λ low. (low < end) × (at ≤ l .k + 1) × (l .k + 1 ≤ end) × LowestTo buffer at low (l .k + 1) in
+    let more : at ≤ l .k + 1 = omega (arith, l .inv .1) in
+    let inside : l .k + 1 ≤ end = omega (arith, t .loop-test .taken) in
+    let same = as-low buffer at (l .low) (l .k) (l .inv .3) in
+    let new = lower buffer at (l .low) (l .k) (l .inv .3) (l .inv .1) in
     ⊎-elim
-    (λ w. subst Next (sym (w .1)) (t .loop-test .taken, omega (arith, l .inv .1), omega (arith, t .loop-test .taken), lower buffer at (l .low) (l .k) (l .inv .3) (l .inv .1) (w .0 .taken)))
-    (λ w. subst Next (sym (w .1)) (l .inv .0, omega (arith, l .inv .1), omega (arith, t .loop-test .taken), as-low buffer at (l .low) (l .k) (l .inv .3) (w .0 .left)))
+    (λ w. subst Next (sym (w .1)) (t .loop-test .taken, more, inside, new (w .0 .taken)))
+    (λ w. subst Next (sym (w .1)) (l .inv .0, more, inside, same (w .0 .left)))
     (c .if1 .came)
 
 returns : tie.Need-returns Inv-loop μ-loop

@@ -27,7 +27,8 @@ sub-to : tie.Need-sub-to Inv-loop μ-loop
 sub-to c = c .before .before .loop .inv .0
 
 -- there is room for each of the part
-room : (c : tie.After-to Inv-loop μ-loop) → c .before .before .before .args .at + (c .before .before .loop .k - c .before .before .before .args .start) < numbers
+room : (c : tie.After-to Inv-loop μ-loop)
+    → c .before .before .before .args .at + (c .before .before .loop .k - c .before .before .before .args .start) < numbers
 room c = omega (arith, c .before .before .loop .inv .0, c .before .loop-test .taken, c .before .before .before .pre .1 .1)
 
 add-to : tie.Need-add-to Inv-loop μ-loop
@@ -50,7 +51,8 @@ loop-again c =
       omega (arith, l .inv .0),
       omega (arith, c .before .loop-test .taken),
       ap (λ (x : List ℕ). set x (a .at + (l .k - a .start)) (getD (now (a .from)) (l .k) 0)) (l .inv .2)
-          ∙ part-more (now (a .from)) (now (a .to)) (a .start) (a .at) (l .k) (l .inv .0) (omega (arith, s .pre .0, s .pre .1 .0 .1, c .before .loop-test .taken)),
+          ∙ part-more (now (a .from)) (now (a .to)) (a .start) (a .at) (l .k) (l .inv .0)
+          (omega (arith, s .pre .0, s .pre .1 .0 .1, c .before .loop-test .taken)),
     )
 
 returns : tie.Need-returns Inv-loop μ-loop

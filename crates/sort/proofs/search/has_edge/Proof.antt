@@ -25,7 +25,8 @@ has-member-requires c κs = search needs
 returns-2 : tie.Need-returns-2
 returns-2 c =
     let a = c .before .before .before .args in
-    c .has-member .ensures ∙ sym (ap (λ (b : Bool). not b && in-row (now (a .table)) (a .s) (a .t)) (ne-eqb (a .s) (a .t) (c .before .before .if1 .left)))
+    c .has-member .ensures
+    ∙ sym (ap (λ (b : Bool). not b && in-row (now (a .table)) (a .s) (a .t)) (ne-eqb (a .s) (a .t) (c .before .before .if1 .left)))
 
 pub has-edge-spec : {M : Type 1} → statement M
 has-edge-spec = tie.close (tie.spec returns mul-has-member element-copy-out-has-member has-member-requires returns-2)

@@ -23,7 +23,8 @@ abbrev Trying : List ℕ → ℕ → List ℕ → ℕ → Type 0
 Trying table left waits k = Kept waits × Passed (in-row table) (has left) waits × Tried (in-row table) (has left) waits k
 
 abbrev Inv-loop : tie.InvT-loop
-Inv-loop table left waits₀ tried t s₀ waits s = (s ≤ numbers) × (s < numbers → has left s ≡ true) × Free (in-row table) (has left) t s × Trying table left waits t
+Inv-loop table left waits₀ tried t s₀ waits s =
+    (s ≤ numbers) × (s < numbers → has left s ≡ true) × Free (in-row table) (has left) t s × Trying table left waits t
 
 abbrev μ-loop : tie.MeasureT-loop
 μ-loop table left waits₀ tried t s₀ waits s = numbers - s
@@ -116,11 +117,12 @@ search-again c =
     let o = chosen i in
     let e = edge (n i) in
     let set = has (left (n i)) in
-    let first =
-    lowest-found e set (t (n i)) (s i) (l .inv .2) (i .loop-test .taken) (l .inv .1 (i .loop-test .taken)) (sym (c .before .has-edge .ensures) ∙ c .if2 .taken) in (
-      kept-store e set (l .waits) (t (n i)) (s i) (l .inv .3 .0) (low o) (i .loop-test .taken),
-      passed-store e set (l .waits) (t (n i)) (s i) (l .inv .3 .0) (low o) (i .loop-test .taken) (l .inv .3 .1) (l .inv .2),
-      tried-store e set (l .waits) (t (n i)) (s i) (l .inv .3 .0) (low o) (i .loop-test .taken) (l .inv .3 .2) first,
+    let inside = i .loop-test .taken in
+    let is-edge = sym (c .before .has-edge .ensures) ∙ c .if2 .taken in
+    let first = lowest-found e set (t (n i)) (s i) (l .inv .2) inside (l .inv .1 inside) is-edge in (
+      kept-store e set (l .waits) (t (n i)) (s i) (l .inv .3 .0) (low o) inside,
+      passed-store e set (l .waits) (t (n i)) (s i) (l .inv .3 .0) (low o) inside (l .inv .3 .1) (l .inv .2),
+      tried-store e set (l .waits) (t (n i)) (s i) (l .inv .3 .0) (low o) inside (l .inv .3 .2) first,
     )
 
 add-member-from : tie.Need-add-member-from Inv-loop μ-loop Inv-search μ-search
@@ -132,7 +134,9 @@ member-from-requires-3 c κs = search needs
 -- the next predecessor that may be left
 onwards : (c : tie.After-member-from3 Inv-loop μ-loop Inv-search μ-search)
     → FirstFrom (has (left (n (c .before .before .before)))) (s (c .before .before .before) + 1) numbers (c .member-from3 .result)
-onwards c = found-from (has (left (n (c .before .before .before)))) (s (c .before .before .before) + 1) (c .member-from3 .result) (c .member-from3 .ensures)
+onwards c =
+    let i = c .before .before .before in
+    found-from (has (left (n i))) (s i + 1) (c .member-from3 .result) (c .member-from3 .ensures)
 
 loop-less : tie.Need-loop-less Inv-loop μ-loop Inv-search μ-search
 loop-less c = go (decLt (c .member-from3 .result) numbers)
@@ -169,8 +173,8 @@ returns-2 c =
     let o = c .before .before .before .before in
     let m = o .before in
     let set = has (left m) in
-    let is-next =
-    ready-found (edge m) set (l .waits) (t m) (l .inv .3 .2) (low o) (found m .passes (low o) .1) (λ u z. l .inv .2 u (omega (arith, z, c .loop-test .left))) in (
+    let free : Free (edge m) set (t m) numbers = λ u z. l .inv .2 u (omega (arith, z, c .loop-test .left)) in
+    let is-next = ready-found (edge m) set (l .waits) (t m) (l .inv .3 .2) (low o) (found m .passes (low o) .1) free in (
       sym is-next,
       (l .inv .3 .0, (l .inv .3 .1, λ e. absurd (Option·some-ne-none (t m) (sym is-next ∙ e)))),
     )
