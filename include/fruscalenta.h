@@ -1,7 +1,8 @@
 /* The C face of the checker of replicated logs. Link libclib.a, which `rt staticlib clib` makes (x86-64 Linux).
  *
- * Nothing is asked of a caller but that log points at len readable bytes; it is never null, also where len is 0. Every log of any
- * length and content, and every table of edges with every set, gets an answer. Nothing is allocated, and nothing is kept between calls. */
+ * Every log of any length and content, and every table of edges with every set, gets an answer. Nothing is allocated, and nothing is kept
+ * between calls. Nothing is asked of a caller but that the pointers are good: log points at len readable bytes, and is not null, also where
+ * len is 0; table points at 64 readable numbers and members at 64 writable bytes, which do not overlap. */
 #ifndef FRUSCALENTA_H
 #define FRUSCALENTA_H
 
@@ -33,17 +34,17 @@ struct fruscalenta_answer fruscalenta_source_of_record(const uint8_t *log, size_
  * either is not in the log. Numbers 1, 2, 4 to 9, then 10. A question costs a reading of the whole log. */
 struct fruscalenta_answer fruscalenta_edge_between(const uint8_t *log, size_t len, size_t i, size_t j);
 
-/* A line or a cycle: cycle is 0 or 1, and length is how many members it has. */
-struct fruscalenta_order {
+/* A line or a cycle: cycle is 0 for a line and 1 for a cycle, and length is how many members it has. */
+struct fruscalenta_sorted {
     uint64_t cycle;
     uint64_t length;
 };
 
 /* The sort of a table of edges, without a log: bit j of table[i] is the edge from i to j, and bit t of set says that t is in the set. The
- * answer is the smallest line of the set's members, read from the left, that keeps every edge; or, where there is none, a cycle along the
- * edges, from its lowest number. Edges from one to itself, and to or from others than the set's members, are ignored. The members are
- * written to the first length bytes of members, and all others keep their content; table and members must not overlap. */
-struct fruscalenta_order fruscalenta_sort(const uint64_t table[64], uint64_t set, uint8_t members[64]);
+ * answer is the smallest line of the set's transactions, read from the left, that keeps every edge; or, where there is none, document 01's
+ * cycle, written along the edges from its lowest number. Edges from a transaction to itself, and to or from transactions outside the set,
+ * are ignored. The transactions are written to the first length bytes of members, and all others keep their content. */
+struct fruscalenta_sorted fruscalenta_sort(const uint64_t table[64], uint64_t set, uint8_t members[64]);
 
 #ifdef __cplusplus
 }

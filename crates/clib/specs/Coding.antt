@@ -6,7 +6,7 @@ use Rattle.format.specs.Answer.{Answer, gives, refused}
 use Rattle.format.specs.Record.{transactions}
 use Rattle.sort.specs.Rule.{LineOrCycle, line, cycle}
 use Rattle.clib.specs.declared.Coded.{Coded}
-use Rattle.clib.specs.declared.CodedOrder.{CodedOrder}
+use Rattle.clib.specs.declared.CodedSorted.{CodedSorted}
 
 abbrev pub coded-refusal : ℕ → ℕ → Coded
 coded-refusal n p = record { number = n; place = p; value = 0 }
@@ -30,6 +30,6 @@ abbrev pub reason-value : ℕ → ℕ
 reason-value n = n
 
 -- a line or a cycle has the number 0 or 1, and its length
-abbrev pub coded-order : LineOrCycle ℕ → CodedOrder
-coded-order (line n) = record { cycle = 0; length = n }
-coded-order (cycle n) = record { cycle = 1; length = n }
+abbrev pub coded-sorted : LineOrCycle ℕ → CodedSorted
+coded-sorted (line n) = record { cycle = 0; length = n }
+coded-sorted (cycle n) = record { cycle = 1; length = n }

@@ -7,7 +7,7 @@ ghost use Rattle.log.specs.Refusal.{check-answer};
 ghost use Rattle.log.specs.Source.{source-answer};
 ghost use Rattle.edges.specs.Reasons.{edge-answer};
 ghost use Rattle.sort.specs.Rule.{sorted, members-of, length-of};
-ghost use Rattle.clib.specs.Coding.{coded, coded-refusal, passed-value, source-value, reason-value, coded-order};
+ghost use Rattle.clib.specs.Coding.{coded, coded-refusal, passed-value, source-value, reason-value, coded-sorted};
 use edges::graph::Edge;
 use edges::graph::edge_between;
 use format::record::TRANSACTIONS;
@@ -17,8 +17,8 @@ use log::check::check;
 use log::source::Source;
 use log::source::source_of_record;
 use sets::NUMBERS;
-use sort::order::Sorted;
-use sort::order::sort;
+use sort::Sorted;
+use sort::sort;
 
 // An answer in numbers: the refusal's number and place, or number 0 and then the value. `struct fruscalenta_answer` of the header.
 #[repr(C)]
@@ -28,9 +28,9 @@ pub struct Coded {
     pub value: u64,
 }
 
-// A line or a cycle in numbers: whether it is a cycle, 1 or 0, and how many members it has. `struct fruscalenta_order` of the header.
+// A line or a cycle in numbers: whether it is a cycle, 1 or 0, and how many members it has. `struct fruscalenta_sorted` of the header.
 #[repr(C)]
-pub struct CodedOrder {
+pub struct CodedSorted {
     pub cycle: u64,
     pub length: u64,
 }
@@ -105,16 +105,16 @@ pub extern "C" fn fruscalenta_sort(
     table: &[u64; NUMBERS],
     set: u64,
     members: &mut [u8; NUMBERS],
-) -> CodedOrder
-    ensures { λ a. ⌜ a ≡ coded-order (length-of (sorted numbers (in-row (now (table .entry))) (has set))) ⌝ }
+) -> CodedSorted
+    ensures { λ a. ⌜ a ≡ coded-sorted (length-of (sorted numbers (in-row (now (table .entry))) (has set))) ⌝ }
     ensures { λ a. ⌜ now (members .exit) ≡ sets (now (members .entry)) 0 (members-of (sorted numbers (in-row (now (table .entry))) (has set))) ⌝ }
 {
     match sort(table, set, members) {
-        Sorted::Line(n) => CodedOrder {
+        Sorted::Line(n) => CodedSorted {
             cycle: 0,
             length: n as u64,
         },
-        Sorted::Cycle(n) => CodedOrder {
+        Sorted::Cycle(n) => CodedSorted {
             cycle: 1,
             length: n as u64,
         },

@@ -1,10 +1,11 @@
 -- Laws of the rule's tests: who is a predecessor, who is ready, who is next, who is left when one is placed. Assumes nothing.
 use Prim.Native.Nat.{ℕ, suc, _<_}
-use mathlib.Core.Path.{_≡_, refl, sym, _∙_, ap}
+use mathlib.Core.Path.{_≡_, refl, sym, _∙_, ap, fun-ext}
 use mathlib.Core.Bool.{Bool, true, false, _&&_, not}
 use mathlib.Core.Option.{none, some}
 use lib.Dec.{eqb}
 use borrow.Author.Tests.{eq-eqb, ne-eqb, eqb-false, not-true}
+use Rattle.sets.specs.Bits.{has}
 use Rattle.sets.specs.Search.{some-below, count-below}
 use Rattle.sets.proofs.Truth.{clash, refuted, and-true, and-left, and-right, and-always, and-nothing}
 use Rattle.sets.proofs.Searches.{None, First, first-some, first-found, some-none, none-some, first-view, first-none-below}
@@ -35,6 +36,10 @@ module _ (left : ℕ → Bool) (t : ℕ) where
   one-fewer n l h =
       count-without left t n l h ∙ ap suc (count-same (λ s. left s && not (eqb t s)) (without left t) n (λ s m. without-said s))
 
+-- a set with one taken out, as the rule has it
+pub taken : (left fewer t : ℕ) → ((s : ℕ) → has fewer s ≡ (has left s && not (eqb t s))) → has fewer ≡ without (has left) t
+taken left fewer t h = fun-ext (λ s. h s ∙ without-said (has left) t s)
+
 module _ (edge : ℕ → ℕ → Bool) where
   -- a predecessor among those left
   module _ (left : ℕ → Bool) (t s : ℕ) where
@@ -61,9 +66,14 @@ module _ (edge : ℕ → ℕ → Bool) where
     pub predecessor-edge : predecessor edge left t s ≡ true → edge s t ≡ true
     predecessor-edge h = and-right (not (eqb s t)) (edge s t) (said h .1)
 
-    -- who is not left is none
-    pub not-predecessor : left s ≡ false → predecessor edge left t s ≡ false
-    not-predecessor f = sym predecessor-said ∙ ap (λ (b : Bool). b && (not (eqb s t) && edge s t)) f
+    -- without one of the three it is none
+    pub not-predecessor : without left t s ≡ false → predecessor edge left t s ≡ false
+    not-predecessor f =
+        refuted (predecessor edge left t s)
+        (λ h. clash (without left t s) (without-other left t s (λ (q : t ≡ s). predecessor-other h (sym q)) ∙ predecessor-left h) f)
+
+    pub no-edge-none : edge s t ≡ false → predecessor edge left t s ≡ false
+    no-edge-none f = refuted (predecessor edge left t s) (λ h. clash (edge s t) (predecessor-edge h) f)
 
   -- an edge between two different members
   module _ (set : ℕ → Bool) (s t : ℕ) where
@@ -144,7 +154,7 @@ module _ (edge : ℕ → ℕ → Bool) where
     unfolding next
     none-next h = first-miss (ready n edge left) n h
 
-    -- whoever is left and not ready waits for a predecessor
+    -- one that is left and not ready waits for a predecessor
     pub waiting : (t : ℕ) → left t ≡ true → ready n edge left t ≡ false → (s : ℕ) × (predecessor edge left t s ≡ true)
     waiting t l f = go (some-below n (predecessor edge left t)) refl
       where

@@ -1,13 +1,12 @@
 -- The rule's own steps, as laws: what is placed and who is left, a step of the walk, and how the sort ends. Nothing else opens these
 -- definitions. Assumes nothing.
 use Prim.Native.Nat.{ℕ, zero, suc, _<_}
-use mathlib.Core.Path.{_≡_, refl}
-use mathlib.Core.Bool.{Bool, true, false}
+use mathlib.Core.Path.{_≡_, refl, _∙_}
+use mathlib.Core.Bool.{Bool, true, false, cond}
 use mathlib.Core.List.{List, [], _∷_}
 use mathlib.Core.Option.{Option, none, some, Option·elim}
-use lib.ListN.{take}
 use Rattle.sets.proofs.Searches.{None, first-hit, first-miss}
-use Rattle.sort.specs.Rule.{among, place-of, without, next, placed, rest, lowest-predecessor, walk, to-lowest, cycle-from}
+use Rattle.sort.specs.Rule.{among, without, next, placed, rest, lowest-predecessor, walk, to-lowest, cycle-from, up-to}
 use Rattle.sort.specs.Rule.{sorted, line, cycle}
 
 module _ (n : ℕ) (edge : ℕ → ℕ → Bool) where
@@ -39,7 +38,7 @@ module _ (n : ℕ) (edge : ℕ → ℕ → Bool) where
   unfolding rest Option·elim
   rest-some m left t e = rw e refl
 
-  -- nobody is left: a line; somebody is: a cycle from the lowest-numbered one
+  -- none is left: a line; one is: a cycle from the lowest-numbered one
   module _ (set : ℕ → Bool) where
     pub sorted-line : None (rest n edge n set) n → sorted n edge set ≡ line (placed n edge n set)
     unfolding sorted Option·elim
@@ -60,11 +59,15 @@ module _ (back : ℕ → Option ℕ) where
   unfolding walk Option·elim
   walk-lost m t path e = rw e refl
 
-  pub walk-ends : (m t s : ℕ) (path : List ℕ) → back t ≡ some s → among path s ≡ true
-      → walk back (suc m) t path ≡ take (suc (place-of s path)) path
+  pub walk-steps : (m t s : ℕ) (path : List ℕ) → back t ≡ some s
+      → walk back (suc m) t path ≡ cond (among path s) (up-to s path) (walk back m s (s ∷ path))
   unfolding walk Option·elim
-  walk-ends m t s path e a = rw (e, a) refl
+  walk-steps m t s path e = rw e refl
 
-  pub walk-goes : (m t s : ℕ) (path : List ℕ) → back t ≡ some s → among path s ≡ false → walk back (suc m) t path ≡ walk back m s (s ∷ path)
-  unfolding walk Option·elim
-  walk-goes m t s path e a = rw (e, a) refl
+  pub walk-ends : (m t s : ℕ) (path : List ℕ) → back t ≡ some s → among path s ≡ true
+      → walk back (suc m) t path ≡ up-to s path
+  walk-ends m t s path e a = walk-steps m t s path e ∙ rw a refl
+
+  pub walk-goes : (m t s : ℕ) (path : List ℕ) → back t ≡ some s → among path s ≡ false
+      → walk back (suc m) t path ≡ walk back m s (s ∷ path)
+  walk-goes m t s path e a = walk-steps m t s path e ∙ rw a refl

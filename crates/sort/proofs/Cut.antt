@@ -8,7 +8,7 @@ use mathlib.Core.List.{List}
 use lib.ListN.{length, take, drop, length-append, length-drop}
 use lib.Seq.{sets, slice, take-add, take-take, drop-at, drop-drop, length-take-le}
 use Rattle.sets.specs.Bits.{numbers}
-use Rattle.sort.specs.Rule.{among, place-of, lowest, turned, to-lowest}
+use Rattle.sort.specs.Rule.{among, place-of, lowest, turned, to-lowest, up-to}
 use Rattle.sort.proofs.Rings.{lowest-in, to-lowest-said}
 use Rattle.sort.proofs.Lists.{place-low}
 use Rattle.sort.proofs.Parts.{sets-append, place-in}
@@ -30,7 +30,7 @@ length-turned xs p l = length-append (drop p xs) (take p xs) ∙ omega (arith, l
 module _ (path : List ℕ) (at again : ℕ) (whole : length path ≡ numbers) (there : among (drop at path) again ≡ true) where
   -- the cycle, along the edges
   abbrev pub ring : List ℕ
-  ring = take (suc (place-of again (drop at path))) (drop at path)
+  ring = up-to again (drop at path)
 
   module _ (last : ℕ) (found : last ≡ at + place-of again (drop at path)) where
     pub last-low : last < numbers

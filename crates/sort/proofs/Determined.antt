@@ -13,8 +13,8 @@ use Rattle.sets.proofs.Counts.{count-low}
 use Rattle.sort.specs.Rule.{LineOrCycle, line, cycle, sorted, members-of, length-of}
 use Rattle.sort.specs.Lines.{Below, Means}
 use Rattle.sort.specs.Numbers.{sorted-says}
-use Rattle.sort.specs.declared.order.Sorted.{Sorted}
-use Rattle.sort.specs.declared.order.Sorted.the-variants.{Line, Cycle}
+use Rattle.sort.specs.declared.Sorted.{Sorted}
+use Rattle.sort.specs.declared.Sorted.the-variants.{Line, Cycle}
 use Rattle.sort.proofs.Placing.{line-length}
 use Rattle.sort.proofs.Sorts.{sorted-means}
 
@@ -36,7 +36,7 @@ same-sorted (Line m) (Cycle n) e = absurd (differ (line m) (cycle n) (λ z. omeg
 same-sorted (Cycle m) (Line n) e = absurd (differ (cycle m) (line n) (λ z. omega (arith, z)) e)
 same-sorted (Cycle m) (Cycle n) e = ap Cycle (ap count-of e)
 
--- The premises below are the promises of src/order.rt, word for word.
+-- The premises below are the promises of src/lib.rt, word for word.
 -- THEOREM: any two answers that `sort` promises for a table, a set and a buffer are equal, and so are the buffers left
 pub sort-determined : (table : List ℕ) (set : ℕ) (old : List ℕ) (a b : Sorted) (left right : List ℕ)
     → sorted-says a ≡ length-of (sorted numbers (in-row table) (has set))

@@ -1,5 +1,5 @@
--- How the sort ends. Nobody left: the rule gives the line, and it is what was placed. Somebody left: the rule gives a cycle, and the walk
--- by the predecessors that were kept is the rule's walk, since in a rest where nobody is ready these are the lowest. Assumes nothing.
+-- How the sort ends. None left: the rule gives the line, and it is what was placed. One left: the rule gives a cycle, and the walk by the
+-- predecessors that were kept is the rule's walk, since in a rest where none is ready these are the lowest. Assumes nothing.
 use Prim.Native.Nat.{ℕ, zero, suc, _+_, _<_, _≤_}
 use native.Mathlib.Omega.{arith}
 use mathlib.Core.Path.{_≡_, refl, sym, _∙_, ap, fun-ext}
@@ -16,7 +16,7 @@ use Rattle.sort.proofs.Chosen.{predecessor-left, lowest-is}
 use Rattle.sort.proofs.Clauses.{placed-zero, placed-none, placed-some, sorted-line, sorted-cycle, walk-zero, walk-lost}
 use Rattle.sort.proofs.Clauses.{walk-ends, walk-goes}
 
--- two walks that go the same way from everybody of a set, and never leave it
+-- two walks that go the same way from each of a set, and never leave it
 pub walk-same : (f g : ℕ → Option ℕ) (p : ℕ → Bool) → ((t : ℕ) → p t ≡ true → f t ≡ g t)
     → ((t s : ℕ) → p t ≡ true → f t ≡ some s → p s ≡ true)
     → (m t : ℕ) (path : List ℕ) → p t ≡ true → walk f m t path ≡ walk g m t path
@@ -59,11 +59,11 @@ module _ (edge : ℕ → ℕ → Bool) (set : ℕ → Bool) where
     left-is-rest : left ≡ rest numbers edge numbers set
     left-is-rest = fun-ext same
 
-    -- nobody left
+    -- none left
     pub ends-in-line : FirstFrom left 0 numbers numbers → sorted numbers edge set ≡ line line-of
     ends-in-line w = sorted-line numbers edge set (λ t l. sym (same t) ∙ w .none-before t (omega arith) l)
 
-    -- somebody left
+    -- one left
     module _ (waits : List ℕ) (blocked : Blocked edge left waits) (t : ℕ) (w : FirstFrom left 0 numbers t) (l : t < numbers) where
       stays : (u s : ℕ) → left u ≡ true → lowest-predecessor numbers edge left u ≡ some s → left s ≡ true
       stays u s h e = predecessor-left edge left u s (lowest-is edge numbers left u s e .1)

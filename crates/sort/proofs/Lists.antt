@@ -13,7 +13,7 @@ use borrow.Author.Tests.{eq-eqb, ne-eqb, eqb-true}
 use Rattle.sets.specs.Search.{count-below}
 use Rattle.sets.proofs.Truth.{clash, refuted, and-true, or-cases, or-hit-left, or-hit-right, or-left, or-right, or-false}
 use Rattle.sets.proofs.Counts.{count-without}
-use Rattle.sort.specs.Rule.{among, place-of}
+use Rattle.sort.specs.Rule.{among, place-of, up-to}
 use Rattle.sort.specs.Lines.{NoneTwice}
 
 -- what is among them
@@ -92,7 +92,7 @@ pub record UpTo (s : ℕ) (xs : List ℕ) : Type 0 where
   pub before : List ℕ
   pub after : List ℕ
   pub whole : xs ≡ before ++ s ∷ after
-  pub part : take (suc (place-of s xs)) xs ≡ before ++ s ∷ []
+  pub part : up-to s xs ≡ before ++ s ∷ []
 
 place-nil : (s : ℕ) → place-of s [] ≡ 0
 unfolding place-of
@@ -106,9 +106,9 @@ place-other : (x : ℕ) (xs : List ℕ) (s : ℕ) → (x ≡ s → ⊥) → plac
 unfolding place-of
 place-other x xs s q = rw (ne-eqb x s q) refl
 
-pub up-to : (s : ℕ) (xs : List ℕ) → among xs s ≡ true → UpTo s xs
-up-to s [] h = absurd (clash (among [] s) h (among-nil s))
-up-to s (x ∷ xs) h = go (ℕ-discrete x s) (λ q. up-to s xs (sym (among-other x xs s q) ∙ h))
+pub first-there : (s : ℕ) (xs : List ℕ) → among xs s ≡ true → UpTo s xs
+first-there s [] h = absurd (clash (among [] s) h (among-nil s))
+first-there s (x ∷ xs) h = go (ℕ-discrete x s) (λ q. first-there s xs (sym (among-other x xs s q) ∙ h))
   where
     go : Dec (x ≡ s) → ((x ≡ s → ⊥) → UpTo s xs) → UpTo s (x ∷ xs)
     go (yes q) w =

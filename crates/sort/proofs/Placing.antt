@@ -1,6 +1,6 @@
 -- The line. Placing one that is ready, again and again until none is left, gives a line that keeps every edge, and every such line is made
 -- in that way; the rule's is the smallest, since it takes the lowest that any of them could take. From a stuck rest there is none: of the
--- rest, somebody would stand first in it, before the predecessor that he waits for. Assumes nothing.
+-- rest, one would stand first in it, before the predecessor that it waits for. Assumes nothing.
 use Prim.Native.Nat.{ℕ, zero, suc, _<_, _≤_}
 use native.Mathlib.Omega.{arith}
 use native.Mathlib.Decide.{ℕ-discrete, decLt}
@@ -26,7 +26,7 @@ use Rattle.sort.proofs.Chosen.{is-within, within-from, within-to, withi
 use Rattle.sort.proofs.Clauses.{placed-zero, placed-none, placed-some, rest-zero, rest-none, rest-some}
 use Rattle.sort.proofs.Chosen.{is-ready, ready-left, ready-free, not-ready-out, next-view, none-next}
 
--- who stands before whom
+-- what stands before what
 stands-nil : (s t : ℕ) → stands-before [] s t ≡ false
 unfolding stands-before
 stands-nil s t = refl
@@ -49,7 +49,7 @@ stands-cases x xs s t h =
     (λ (b : stands-before xs s t ≡ true). inr b)
     (or-cases (eqb x s && among xs t) (stands-before xs s t) h)
 
--- whoever stands after somebody is in the list, and not first in it
+-- what stands after something is in the list, and not first in it
 stands-among : (xs : List ℕ) (s t : ℕ) → stands-before xs s t ≡ true → among xs t ≡ true
 stands-among [] s t h = absurd (clash (stands-before [] s t) h (stands-nil s t))
 stands-among (x ∷ xs) s t h =
@@ -93,7 +93,7 @@ stands-through (x ∷ xs) r s t d h k =
         (stands-cases x xs r s h)
 
 module _ (edge : ℕ → ℕ → Bool) where
-  -- of a set with somebody in the list, one stands first in it
+  -- of a set with one in the list, one stands first in it
   abbrev FirstOf : (ℕ → Bool) → List ℕ → Type 0
   FirstOf left xs = (t : ℕ) × (left t ≡ true) × ((s : ℕ) → stands-before xs s t ≡ true → left s ≡ false)
 
@@ -138,7 +138,7 @@ module _ (edge : ℕ → ℕ → Bool) where
   line-acyclic set xs l i p = stands-not-itself xs i (l .none-twice) (path-stands set xs l i i p)
 
   module _ (n : ℕ) where
-    -- a line made place by place: each is ready when it is placed, and in the end nobody is left
+    -- a line made place by place: each is ready when it is placed, and in the end none is left
     abbrev pub Steps : (ℕ → Bool) → List ℕ → Type 0
     Steps left [] = (t : ℕ) → left t ≡ false
     Steps left (t ∷ ts) = (ready n edge left t ≡ true) × Steps (without left t) ts
@@ -226,7 +226,7 @@ module _ (edge : ℕ → ℕ → Bool) where
             there : left x ≡ true
             there = ready-left edge n left x (w .0)
 
-    -- whoever is left at the end was in the set
+    -- what is left at the end was in the set
     pub rest-within : (m : ℕ) (left : ℕ → Bool) (t : ℕ) → rest n edge m left t ≡ true → left t ≡ true
     rest-within zero left t h = sym (ap (λ (f : ℕ → Bool). f t) (rest-zero n edge left)) ∙ h
     rest-within (suc m) left t h = go (next n edge left) refl (λ u. rest-within m (without left u) t)
@@ -237,12 +237,12 @@ module _ (edge : ℕ → ℕ → Bool) where
         go (some u) e ih = still-left left u t (ih u (sym (ap (λ (f : ℕ → Bool). f t) (rest-some n edge m left u e)) ∙ h))
 
     -- at the end none can be placed: every place takes one, so as many places as there are members are enough
-    nobody : (left : ℕ → Bool) → count-below n left ≤ 0 → next n edge left ≡ none
-    nobody left c =
+    none-ready : (left : ℕ → Bool) → count-below n left ≤ 0 → next n edge left ≡ none
+    none-ready left c =
         none-next edge n left (λ t l. not-ready-out edge n left t (refuted (left t) (λ h. omega (arith, c, count-some left n t l h))))
 
     pub rest-ends : (m : ℕ) (left : ℕ → Bool) → count-below n left ≤ m → next n edge (rest n edge m left) ≡ none
-    rest-ends zero left c = ap (next n edge) (rest-zero n edge left) ∙ nobody left c
+    rest-ends zero left c = ap (next n edge) (rest-zero n edge left) ∙ none-ready left c
     rest-ends (suc m) left c = go (next n edge left) refl (next-view edge n left) (λ u d. rest-ends m (without left u) d)
       where
         go : (o : Option ℕ) → next n edge left ≡ o → First (ready n edge left) n o
@@ -252,7 +252,7 @@ module _ (edge : ℕ → ℕ → Bool) where
         go (some u) e (first-some l r f) ih =
             ap (next n edge) (rest-some n edge m left u e) ∙ ih u (omega (arith, c, one-fewer left u n l (ready-left edge n left u r)))
 
-    -- where nobody is left, what the rule placed was made place by place,
+    -- where none is left, what the rule placed was made place by place,
     pub placed-steps : (m : ℕ) (left : ℕ → Bool) → ((t : ℕ) → rest n edge m left t ≡ false) → Steps left (placed n edge m left)
     placed-steps zero left f = rw (placed-zero n edge left) (λ t. sym (ap (λ (g : ℕ → Bool). g t) (rest-zero n edge left)) ∙ f t)
     placed-steps (suc m) left f = go (next n edge left) refl (next-view edge n left) (λ u. placed-steps m (without left u))

@@ -1,5 +1,5 @@
 -- The cycle. The walk from a stuck rest never lacks a predecessor, and no one is met twice on the path; so the path would outgrow the rest
--- if nobody came again. What stands before the first coming is left behind; the rest of the path, turned, is still a ring. Assumes nothing.
+-- if none came again. What stands before the first coming is left behind; the rest of the path, turned, is still a ring. Assumes nothing.
 use Prim.Native.Nat.{ℕ, zero, suc, _+_, _<_, _≤_, min}
 use native.Mathlib.Omega.{arith}
 use native.Mathlib.Decide.{decLt}
@@ -14,10 +14,10 @@ use Rattle.sets.specs.Search.{count-below}
 use Rattle.sets.specs.Paths.{Precedes, by-edge, edge-then}
 use Rattle.sets.proofs.Truth.{clash, or-swap, or-hit-left}
 use Rattle.sets.proofs.Searches.{First, first-none, first-some}
-use Rattle.sort.specs.Rule.{among, place-of, lowest, turned, to-lowest, predecessor, lowest-predecessor, walk}
+use Rattle.sort.specs.Rule.{among, place-of, lowest, turned, to-lowest, predecessor, lowest-predecessor, walk, up-to}
 use Rattle.sort.specs.Lines.{NoneTwice, edge-within, Below, Linked, Cycle, FromLowest, Stuck}
 use Rattle.sort.proofs.Lists.{among-nil, among-first, among-later, among-cases, among-append, twice-split, twice-swap}
-use Rattle.sort.proofs.Lists.{up-to, place-low, place-entry, pigeonhole}
+use Rattle.sort.proofs.Lists.{first-there, place-low, place-entry, pigeonhole}
 use Rattle.sort.proofs.Chosen.{predecessor-left, predecessor-other, predecessor-edge, is-within, lowest-view}
 use Rattle.sort.proofs.Clauses.{walk-ends, walk-goes}
 
@@ -46,7 +46,7 @@ module _ (r : ℕ → ℕ → Bool) where
       let w = linked-cut (x ∷ xs) y (ys ++ x ∷ []) (subst (Linked r) (append-assoc (x ∷ xs) (y ∷ ys) (x ∷ [])) h) in
       subst (Linked r) (sym (append-assoc (y ∷ ys) (x ∷ xs) (y ∷ []))) (linked-join (y ∷ ys) x (xs ++ y ∷ []) (w .1) (w .0))
 
--- a cycle goes on for ever: whoever is in it precedes itself
+-- a cycle goes on for ever: each of its members precedes itself
 pub cycle-precedes : (edge : ℕ → ℕ → Bool) (set : ℕ → Bool) (x : ℕ) (xs : List ℕ) → Cycle edge set (x ∷ xs)
     → Precedes (edge-within edge set) x x
 cycle-precedes edge set x xs c = linked-path (edge-within edge set) x xs x (c .round)
@@ -139,7 +139,7 @@ module _ (edge : ℕ → ℕ → Bool) where
       subst (Cycle edge set) (to-lowest-said xs)
       (turned-cycle set xs (place-of (lowest xs) xs) (lowest-place xs (omega (arith, c .at-least-two))) c)
 
-  -- who is on the path: nobody twice, all of them left, each with an edge to the next
+  -- what a path is: none twice, all of them left, each with an edge to the next
   abbrev pub Path : (ℕ → Bool) → List ℕ → Type 0
   Path left path = NoneTwice path × ((t : ℕ) → among path t ≡ true → left t ≡ true) × Linked (edge-within edge left) path
 
@@ -162,8 +162,8 @@ module _ (edge : ℕ → ℕ → Bool) where
     )
 
     -- s comes again
-    pub path-closes : among (t ∷ tail) s ≡ true → Cycle edge left (take (suc (place-of s (t ∷ tail))) (t ∷ tail))
-    path-closes a = let u = up-to s (t ∷ tail) a in subst (Cycle edge left) (sym (u .part)) (go (u .before) (u .after) (u .whole))
+    pub path-closes : among (t ∷ tail) s ≡ true → Cycle edge left (up-to s (t ∷ tail))
+    path-closes a = let u = first-there s (t ∷ tail) a in subst (Cycle edge left) (sym (u .part)) (go (u .before) (u .after) (u .whole))
       where
         go : (front after : List ℕ) → t ∷ tail ≡ front ++ s ∷ after → Cycle edge left (front ++ s ∷ [])
         go [] after e = absurd (predecessor-other edge left t s before (sym (ap (λ (xs : List ℕ). getD xs 0 0) e)))
@@ -198,7 +198,7 @@ module _ (edge : ℕ → ℕ → Bool) where
             absurd (clash (predecessor edge left t (w .0)) (w .1) (f (w .0) (low (w .0) (predecessor-left edge left t (w .0) (w .1)))))
         go (some s) e (first-some m q f) = (s, e, q)
 
-    -- the walk, from any path on: where it would go on for longer than there are members, somebody comes twice
+    -- the walk, from any path on: it cannot go on for longer than there are members
     pub walk-cycle : Below n left → Stuck edge left → (m t : ℕ) (tail : List ℕ) → Path left (t ∷ tail)
         → count-below n left < m + length (t ∷ tail) → Cycle edge left (walk (lowest-predecessor n edge left) m t (t ∷ tail))
     walk-cycle low stuck zero t tail p c =

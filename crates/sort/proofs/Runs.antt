@@ -2,23 +2,18 @@
 use Prim.Native.Nat.{ℕ, suc, _+_, _-_, _≤_}
 use native.Mathlib.Omega.{arith}
 use native.Mathlib.Numerals.{add-one}
-use mathlib.Core.Path.{_≡_, refl, sym, _∙_, ap, subst, fun-ext}
-use mathlib.Core.Bool.{Bool, _&&_, not}
+use mathlib.Core.Path.{_≡_, refl, sym, _∙_, ap, subst}
+use mathlib.Core.Bool.{Bool}
 use mathlib.Core.List.{List, [], _∷_}
 use mathlib.Core.Option.{none, some}
-use lib.Dec.{eqb}
 use lib.ListN.{length, set}
 use lib.Seq.{sets}
-use Rattle.sets.specs.Bits.{numbers, has}
+use Rattle.sets.specs.Bits.{numbers}
 use Rattle.sets.specs.Search.{count-below}
 use Rattle.sets.proofs.Counts.{count-low, count-some}
 use Rattle.sort.specs.Rule.{without, next, placed, rest}
-use Rattle.sort.proofs.Chosen.{without-said, one-fewer, next-is}
+use Rattle.sort.proofs.Chosen.{one-fewer, next-is}
 use Rattle.sort.proofs.Clauses.{placed-none, placed-some, rest-none, rest-some}
-
--- a set with one taken out, as the rule has it
-pub taken : (left fewer t : ℕ) → ((s : ℕ) → has fewer s ≡ (has left s && not (eqb t s))) → has fewer ≡ without (has left) t
-taken left fewer t h = fun-ext (λ s. h s ∙ without-said (has left) t s)
 
 module _ (edge : ℕ → ℕ → Bool) (all : ℕ → Bool) (blank : List ℕ) where
   -- `count` of the set have been placed in the line, and `more` places can follow
@@ -32,7 +27,7 @@ module _ (edge : ℕ → ℕ → Bool) (all : ℕ → Bool) (blank : List ℕ) w
   place-start = record { enough = count-low all numbers; same-rest = refl; same-line = refl; same-count = omega arith }
 
   module _ (line : List ℕ) (left : ℕ → Bool) (count : ℕ) where
-    -- whoever is ready has room
+    -- there is room for one that is ready
     pub place-room : (more t : ℕ) → ToPlace line left count more → next numbers edge left ≡ some t → 1 ≤ more
     place-room more t w e = let r = next-is edge numbers left t e in omega (arith, w .enough, count-some left numbers t (r .0) (r .1))
 
@@ -56,7 +51,7 @@ module _ (edge : ℕ → ℕ → Bool) (all : ℕ → Bool) (blank : List ℕ) w
               same-count = omega (arith, w .same-count, ap length on);
             }
 
-    -- nobody is ready: all is done
+    -- none is ready: all is done
     module _ (more : ℕ) (w : ToPlace line left count more) (e : next numbers edge left ≡ none) where
       nothing : placed numbers edge more left ≡ []
       nothing = placed-none numbers edge more left e

@@ -33,7 +33,7 @@ cycle-more edge small large m xs c =
     }
 
 module _ (n : ℕ) (edge : ℕ → ℕ → Bool) where
-  -- a rest in which none can be placed, and somebody is left, is stuck
+  -- a rest in which none can be placed, and one is left, is stuck
   pub none-next-stuck : (left : ℕ → Bool) (u : ℕ) → left u ≡ true → Below n left → next n edge left ≡ none → Stuck edge left
   none-next-stuck left u l low e = record { someone = (u, l); waits = λ t h. waiting edge n left t h (next-none edge n left e t (low t h)) }
 
@@ -70,7 +70,7 @@ module _ (n : ℕ) (edge : ℕ → ℕ → Bool) where
     unfolding left-over
     low-left t h = low t (rest-within edge n n set t h)
 
-    -- nobody is left
+    -- none is left
     all-placed : None left-over n → SmallestLine edge set (placed n edge n set)
     unfolding left-over
     all-placed f = record {
@@ -81,7 +81,7 @@ module _ (n : ℕ) (edge : ℕ → ℕ → Bool) where
         gone : (t : ℕ) → rest n edge n set t ≡ false
         gone t = refuted (rest n edge n set t) (λ h. clash (rest n edge n set t) h (f t (low t (rest-within edge n n set t h))))
 
-    -- somebody is left
+    -- one is left
     left-stuck : (t : ℕ) → left-over t ≡ true → Stuck edge left-over
     unfolding left-over
     left-stuck t l = none-next-stuck left-over t l low-left (rest-ends edge n n set (count-low set n))
@@ -124,7 +124,7 @@ module _ (n : ℕ) (edge : ℕ → ℕ → Bool) where
         shown : (xs : List ℕ) (o : LineOrCycle (List ℕ)) → Means n edge set o → o ≡ line xs → Line edge set xs
         shown xs o w e = subst (Means n edge set) e w .is-line
 
-    -- THEOREM: .. exactly where nothing precedes itself ..
+    -- THEOREM: .. exactly where nothing precedes itself, as the chapter says it ..
     pub line-where-acyclic : ((xs : List ℕ) × Line edge set xs) ↔ Acyclic (edge-within edge set)
     line-where-acyclic = (λ w. line-acyclic edge set (w .0) (w .1), λ a. go a (sorted n edge set) sorted-means)
       where
@@ -134,8 +134,8 @@ module _ (n : ℕ) (edge : ℕ → ℕ → Bool) where
         go a (cycle (x ∷ xs)) w = absurd (a x (cycle-precedes edge set x xs (w .0)))
 
     -- THEOREM: .. and exactly where no members stand in a ring
-    pub line-where-no-ring : ((xs : List ℕ) × Line edge set xs) ↔ ((xs : List ℕ) → Cycle edge set xs → ⊥)
-    line-where-no-ring = (λ w. without-ring (w .0) (w .1), λ f. go f (sorted n edge set) sorted-means)
+    pub line-where-no-cycle : ((xs : List ℕ) × Line edge set xs) ↔ ((xs : List ℕ) → Cycle edge set xs → ⊥)
+    line-where-no-cycle = (λ w. without-ring (w .0) (w .1), λ f. go f (sorted n edge set) sorted-means)
       where
         without-ring : (ys : List ℕ) → Line edge set ys → (xs : List ℕ) → Cycle edge set xs → ⊥
         without-ring ys l [] c = omega (arith, c .at-least-two)

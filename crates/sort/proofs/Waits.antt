@@ -1,23 +1,23 @@
--- The search for the ready one keeps, for each transaction, a predecessor that is left, and none below it is. So whoever has been tried in
--- vain waits for the lowest of his predecessors; and whoever comes to the end of the numbers is ready. Assumes nothing.
+-- The search for the ready one keeps, for each transaction, a predecessor that is left, and none below it is. So one that was tried in
+-- vain waits for the lowest of its predecessors; and one whose search comes to the end of the numbers is ready. Assumes nothing.
 use Prim.Native.Nat.{ℕ, _+_, _<_}
 use native.Mathlib.Omega.{arith}
 use native.Mathlib.Decide.{ℕ-discrete, decLt}
 use mathlib.Core.Path.{_≡_, refl, sym, _∙_, ap, subst}
-use mathlib.Core.Bool.{Bool, true, false, _&&_, not}
+use mathlib.Core.Bool.{Bool, true, false, not}
 use mathlib.Core.List.{List}
 use mathlib.Core.Option.{none, some}
-use lib.Dec.{eqb}
 use lib.ListN.{length, getD, set, length-set}
 use lib.Seq.{getD-set-same, getD-set-other}
 use Rattle.sets.specs.Bits.{numbers}
 use Rattle.sets.specs.Search.{first-from}
-use Rattle.sets.proofs.Truth.{clash, refuted, and-true, and-nothing}
+use Rattle.sets.proofs.Truth.{clash, refuted}
 use Rattle.sets.proofs.From.{FirstFrom, first-from-view}
-use Rattle.sort.specs.Rule.{predecessor, ready, next, lowest-predecessor}
-use Rattle.sort.specs.Kept.{Kept, Passed}
+use Rattle.sort.specs.Rule.{predecessor, without, ready, next, lowest-predecessor}
+use Rattle.sort.specs.Kept.{Kept, Searched}
 use Rattle.sort.proofs.Chosen.{is-ready, not-ready-out, not-ready-waits, next-hit, none-next, lowest-hit, lowest-is}
-use Rattle.sort.proofs.Chosen.{predecessor-said, is-predecessor, not-predecessor, predecessor-left, predecessor-other}
+use Rattle.sort.proofs.Chosen.{is-predecessor, not-predecessor, no-edge-none, still-left, not-placed, predecessor-left}
+use Rattle.sort.proofs.Chosen.{predecessor-other}
 use Rattle.sort.proofs.Chosen.{predecessor-edge}
 
 -- what a search from k on found
@@ -29,12 +29,12 @@ module _ (edge : ℕ → ℕ → Bool) (left : ℕ → Bool) where
   abbrev pub Free : ℕ → ℕ → Type 0
   Free t k = (s : ℕ) → s < k → predecessor edge left t s ≡ false
 
-  -- everybody left below k waits for the one kept
+  -- each one left below k waits for the one kept
   abbrev pub Tried : List ℕ → ℕ → Type 0
   Tried waits k = (t : ℕ) → t < k → left t ≡ true → lowest-predecessor numbers edge left t ≡ some (getD waits t 0)
 
-  -- up to the next one left
-  pub free-on : (t k r : ℕ) → Free t k → FirstFrom left k numbers r → Free t r
+  -- up to the next other one that is left
+  pub free-on : (t k r : ℕ) → Free t k → FirstFrom (without left t) k numbers r → Free t r
   free-on t k r f w s l = go (decLt s k)
     where
       go : Dec (s < k) → predecessor edge left t s ≡ false
@@ -42,20 +42,21 @@ module _ (edge : ℕ → ℕ → Bool) (left : ℕ → Bool) where
       go (no m) = not-predecessor edge left t s (w .none-before s (omega (arith, m)) l)
 
   -- and past one that has no edge to t
-  pub free-past : (t s : ℕ) → Free t s → (not (eqb s t) && edge s t) ≡ false → Free t (s + 1)
+  pub free-past : (t s : ℕ) → Free t s → edge s t ≡ false → Free t (s + 1)
   free-past t s f e u l = go (ℕ-discrete u s)
     where
       go : Dec (u ≡ s) → predecessor edge left t u ≡ false
-      go (yes q) = rw q (sym (predecessor-said edge left t s) ∙ ap (λ (b : Bool). left s && b) e ∙ and-nothing (left s))
+      go (yes q) = rw q (no-edge-none edge left t s e)
       go (no q) = f u (omega (arith, l, q))
 
   -- the first that has one is the lowest predecessor
-  pub lowest-found : (t s : ℕ) → Free t s → s < numbers → left s ≡ true → (not (eqb s t) && edge s t) ≡ true
+  pub lowest-found : (t s : ℕ) → Free t s → s < numbers → without left t s ≡ true → edge s t ≡ true
       → lowest-predecessor numbers edge left t ≡ some s
   lowest-found t s f l h e =
-      lowest-hit edge numbers left t s l f (sym (predecessor-said edge left t s) ∙ and-true (left s) (not (eqb s t) && edge s t) h e)
+      lowest-hit edge numbers left t s l f
+      (is-predecessor edge left t s (still-left left t s h) (λ (q : s ≡ t). not-placed left t s h (sym q)) e)
 
-  -- whoever has a lowest predecessor is not ready
+  -- one that has a lowest predecessor is not ready
   waits-not-ready : (t s : ℕ) → lowest-predecessor numbers edge left t ≡ some s → ready numbers edge left t ≡ false
   waits-not-ready t s e = let w = lowest-is edge numbers left t s e in not-ready-waits edge numbers left t s (w .0) (w .1)
 
@@ -94,8 +95,8 @@ module _ (edge : ℕ → ℕ → Bool) (left : ℕ → Bool) where
         go u (yes q) = rw (q, stored) sl
         go u (no q) = rw (getD-set-other waits t u s 0 q) (k .low u)
 
-    pub passed-store : Passed edge left waits → Free t s → Passed edge left (set waits t s)
-    passed-store p f u e l = go (ℕ-discrete u t)
+    pub searched-store : Searched edge left waits → Free t s → Searched edge left (set waits t s)
+    searched-store p f u e l = go (ℕ-discrete u t)
       where
         go : Dec (u ≡ t) → predecessor edge left u e ≡ false
         go (yes q) =
@@ -110,18 +111,18 @@ module _ (edge : ℕ → ℕ → Bool) (left : ℕ → Bool) where
         go (yes q) = rw (q, stored) e
         go (no q) = w u (omega (arith, l, q)) h ∙ ap some (sym (getD-set-other waits t u s 0 q))
 
--- at first nobody is known to wait
+-- at first none is known to wait
 module _ (waits : List ℕ) (blank : (t : ℕ) → _≡_ {A = ℕ} (getD waits t 0) 0) where
   pub kept-start : length waits ≡ numbers → Kept waits
   kept-start w = record { whole = w; low = λ t. rw (blank t) (omega arith) }
 
-  pub passed-start : (edge : ℕ → ℕ → Bool) (left : ℕ → Bool) → Passed edge left waits
-  passed-start edge left t s l = absurd (omega (arith, l, blank t))
+  pub searched-start : (edge : ℕ → ℕ → Bool) (left : ℕ → Bool) → Searched edge left waits
+  searched-start edge left t s l = absurd (omega (arith, l, blank t))
 
 -- those left become fewer
-pub passed-fewer : (edge : ℕ → ℕ → Bool) (left fewer : ℕ → Bool) (waits : List ℕ) → ((s : ℕ) → fewer s ≡ true → left s ≡ true)
-    → Passed edge left waits → Passed edge fewer waits
-passed-fewer edge left fewer waits m p t s l =
+pub searched-fewer : (edge : ℕ → ℕ → Bool) (left fewer : ℕ → Bool) (waits : List ℕ) → ((s : ℕ) → fewer s ≡ true → left s ≡ true)
+    → Searched edge left waits → Searched edge fewer waits
+searched-fewer edge left fewer waits m p t s l =
     refuted (predecessor edge fewer t s) (λ h. clash (predecessor edge left t s) (was-one h) (p t s l))
   where
     was-one : predecessor edge fewer t s ≡ true → predecessor edge left t s ≡ true

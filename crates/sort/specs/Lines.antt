@@ -31,7 +31,7 @@ pub record Line (edge : ℕ → ℕ → Bool) (set : ℕ → Bool) (xs : List �
   pub all-and-only : (t : ℕ) → among xs t ≡ set t
   pub keeps-edges : (s t : ℕ) → edge-within edge set s t ≡ true → stands-before xs s t ≡ true
 
--- the first line is the second, or smaller than it, read from the left
+-- the first list is the second, or smaller than it, read from the left (or ended before it; lines of one set are equally long)
 pub data AtMost : List ℕ → List ℕ → Type 0 where
   ended : {ys : List ℕ} → AtMost [] ys
   smaller : {x y : ℕ} {xs ys : List ℕ} → x < y → AtMost (x ∷ xs) (y ∷ ys)
@@ -61,7 +61,7 @@ abbrev pub FromLowest : List ℕ → Type 0
 FromLowest [] = Unit {0}
 FromLowest (x ∷ xs) = (t : ℕ) → among xs t ≡ true → x ≤ t
 
--- a rest that nobody of can be placed: it has a member, and every member has a predecessor in it
+-- a rest of which none can be placed: it has a member, and every member has a predecessor in it
 pub record Stuck (edge : ℕ → ℕ → Bool) (left : ℕ → Bool) : Type 0 where
   pub someone : (t : ℕ) × (left t ≡ true)
   pub waits : (t : ℕ) → left t ≡ true → (s : ℕ) × (predecessor edge left t s ≡ true)

@@ -4,8 +4,8 @@ use mathlib.Core.Option.{Option, none, some}
 use Rattle.sort.specs.Rule.{LineOrCycle, line, cycle}
 use Rattle.sort.specs.declared.search.Ready.{Ready}
 use Rattle.sort.specs.declared.search.Ready.the-variants.{At, None}
-use Rattle.sort.specs.declared.order.Sorted.{Sorted}
-use Rattle.sort.specs.declared.order.Sorted.the-variants.{Line, Cycle}
+use Rattle.sort.specs.declared.Sorted.{Sorted}
+use Rattle.sort.specs.declared.Sorted.the-variants.{Line, Cycle}
 
 -- the ready one, or none
 abbrev pub ready-says : Ready → Option ℕ

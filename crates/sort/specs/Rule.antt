@@ -26,6 +26,10 @@ unfoldable pub place-of : ℕ → List ℕ → ℕ
 place-of x [] = 0
 place-of x (y ∷ ys) = cond (eqb y x) 0 (suc (place-of x ys))
 
+-- the list up to the first x in it, and x
+abbrev pub up-to : ℕ → List ℕ → List ℕ
+up-to x xs = take (suc (place-of x xs)) xs
+
 -- the lowest number of a list
 unfoldable pub lowest : List ℕ → ℕ
 lowest [] = 0
@@ -40,13 +44,14 @@ turned k xs = drop k xs ++ take k xs
 unfoldable pub to-lowest : List ℕ → List ℕ
 to-lowest xs = turned (place-of (lowest xs) xs) xs
 
--- "and so on until a transaction comes again. The transactions from its first coming on form the cycle." Each step goes back from t, at
--- most m times; who is met is put in front of the path, so that the path stands along the edges, and what was met since s first came
--- stands before it.
+-- "and so on until a transaction comes again. The transactions from its first coming on form the cycle." A step goes back from t, the
+-- front of the path, to some s. Where s is not on the path, it is put in front, so that the path stands along the edges. Where it is, the
+-- cycle is the path up to it. At most m steps; where they are used up, or there is no step back, nothing. (Neither occurs where each has
+-- a predecessor and m is the number of members.)
 unfoldable pub walk : (ℕ → Option ℕ) → ℕ → ℕ → List ℕ → List ℕ
 walk back zero t path = []
 walk back (suc m) t path =
-    Option·elim (back t) [] (λ s. cond (among path s) (take (suc (place-of s path)) path) (walk back m s (s ∷ path)))
+    Option·elim (back t) [] (λ s. cond (among path s) (up-to s path) (walk back m s (s ∷ path)))
 
 -- what the rule gives: a line or a cycle
 pub data LineOrCycle (A : Type 0) : Type 0 where

@@ -5,7 +5,7 @@ ghost use lib.ListN.{length};
 ghost use lib.Seq.{sets};
 ghost use Rattle.sets.specs.Bits.{numbers, has, in-row};
 ghost use Rattle.sort.specs.Rule.{placed, rest};
-ghost use Rattle.sort.specs.Kept.{Kept, Passed, Blocked};
+ghost use Rattle.sort.specs.Kept.{Kept, Searched, Blocked};
 use crate::search::Ready;
 use crate::search::lowest_ready;
 use sets::NUMBERS;
@@ -16,7 +16,8 @@ pub struct Placed {
     pub left: u64,
 }
 
-// Places the transactions of the set, one after the other, in the line. Whom each of those left waits for is then known.
+// Places the transactions of the set in the line, one after the other, until none is ready. Which predecessor each of those left waits
+// for is then known.
 pub(crate) fn place_all(
     table: &[u64; NUMBERS],
     set: u64,
@@ -24,7 +25,7 @@ pub(crate) fn place_all(
     line: &mut [u8; NUMBERS],
 ) -> Placed
     requires { ⌜ Kept (now waits) ⌝ }
-    requires { ⌜ Passed (in-row (now table)) (has set) (now waits) ⌝ }
+    requires { ⌜ Searched (in-row (now table)) (has set) (now waits) ⌝ }
     ensures { λ r. ⌜ r .count ≡ length (placed numbers (in-row (now (table .entry))) numbers (has set)) ⌝ }
     ensures { λ r. ⌜ now (line .exit) ≡ sets (now (line .entry)) 0 (placed numbers (in-row (now (table .entry))) numbers (has set)) ⌝ }
     ensures { λ r. ⌜ ((t : ℕ) → has (r .left) t ≡ rest numbers (in-row (now (table .entry))) numbers (has set) t) ⌝ }

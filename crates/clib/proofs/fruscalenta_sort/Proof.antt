@@ -2,7 +2,7 @@
 use borrow.Author.Needs.{needs}
 use mathlib.Core.Path.{_∙_, sym, ap}
 use Rattle.sort.specs.Numbers.{sorted-says}
-use Rattle.clib.specs.Coding.{coded-order}
+use Rattle.clib.specs.Coding.{coded-sorted}
 use Rattle.clib.proofs.fruscalenta_sort.Statement.{statement}
 use Rattle.clib.proofs.fruscalenta_sort.Tie as tie
 
@@ -17,11 +17,11 @@ enum-known-n-2 c = search needs
 
 returns : tie.Need-returns
 returns c = let a = c .before .before .before in
-    (ap coded-order (sym (ap sorted-says (c .before .n .given .1)) ∙ a .sort .ensures .0), a .sort .ensures .1)
+    (ap coded-sorted (sym (ap sorted-says (c .before .n .given .1)) ∙ a .sort .ensures .0), a .sort .ensures .1)
 
 returns-2 : tie.Need-returns-2
 returns-2 c = let a = c .before .before .before in
-    (ap coded-order (sym (ap sorted-says (c .before .n2 .given .1)) ∙ a .sort .ensures .0), a .sort .ensures .1)
+    (ap coded-sorted (sym (ap sorted-says (c .before .n2 .given .1)) ∙ a .sort .ensures .0), a .sort .ensures .1)
 
 pub fruscalenta-sort-spec : {M : Type 1} → statement M
 fruscalenta-sort-spec = tie.close (tie.spec sort-requires enum-known-n enum-known-n-2 returns returns-2)

@@ -10,11 +10,11 @@ use Prim.Native.Nat.{ℕ, suc, _+_, _-_, _<_, _≤_}
 use denote.Ref.{now}
 use Rattle.sets.specs.Bits.{numbers, has, in-row}
 use Rattle.sort.specs.Rule.{next}
-use Rattle.sort.specs.Kept.{Kept, Passed}
+use Rattle.sort.specs.Kept.{Kept, Searched}
 use Rattle.sort.specs.Numbers.{ready-says}
-use Rattle.sort.proofs.Chosen.{next-is, still-left}
-use Rattle.sort.proofs.Waits.{passed-fewer}
-use Rattle.sort.proofs.Runs.{taken, ToPlace, place-start, place-room, place-one, done-count, done-line, done-rest}
+use Rattle.sort.proofs.Chosen.{next-is, still-left, taken}
+use Rattle.sort.proofs.Waits.{searched-fewer}
+use Rattle.sort.proofs.Runs.{ToPlace, place-start, place-room, place-one, done-count, done-line, done-rest}
 use Rattle.sort.proofs.line.place_all.Statement.{statement}
 use Rattle.sort.proofs.line.place_all.Tie as tie
 
@@ -23,7 +23,7 @@ Inv-loop table set waits₀ line₀ left₀ count₀ waits line left count =
     (count ≤ numbers)
     × ToPlace (in-row table) (has set) line₀ line (has left) count (numbers - count)
     × Kept waits
-    × Passed (in-row table) (has left) waits
+    × Searched (in-row table) (has left) waits
 
 abbrev μ-loop : tie.MeasureT-loop
 μ-loop table set waits₀ line₀ left₀ count₀ waits line left count = numbers - count
@@ -124,7 +124,7 @@ loop-again c =
           (has (c .without-member .result))
           (subst (ToPlace (edge e) (set e) (blank e) (line e) (has (left e)) (count e)) one-more (l .inv .1)) (is-next f) fewer,
       e .lowest-ready .ensures .1 .0,
-      passed-fewer (edge e) (has (left e)) (has (c .without-member .result)) (e .lowest-ready .last .1 .1 .0)
+      searched-fewer (edge e) (has (left e)) (has (c .without-member .result)) (e .lowest-ready .last .1 .1 .0)
           (λ u h. still-left (has (left e)) (t f) u (ap (λ (g : ℕ → Bool). g u) (sym fewer) ∙ h)) (e .lowest-ready .ensures .1 .1 .0),
     )
 

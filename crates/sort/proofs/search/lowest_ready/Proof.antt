@@ -1,4 +1,4 @@
--- `sort::search::lowest_ready` meets its contract. The invariants: whoever has been tried waits for the one kept; and of the one that is
+-- `sort::search::lowest_ready` meets its contract. The invariants: each that has been tried waits for the one kept; and of the one that is
 -- being tried, no predecessor below s is left. Assumes nothing.
 use borrow.Author.Needs.{needs}
 use native.Mathlib.Omega.{arith}
@@ -11,23 +11,26 @@ use Prim.Native.Nat.{ℕ, _+_, _-_, _<_, _≤_}
 use lib.ListN.{getD}
 use denote.Ref.{now}
 use Rattle.sets.specs.Bits.{numbers, has, in-row}
+use Rattle.sets.specs.Search.{first-from}
 use Rattle.sets.proofs.Members.{has-low}
 use Rattle.sets.proofs.From.{FirstFrom}
-use Rattle.sort.specs.Kept.{Kept, Passed}
+use Rattle.sort.specs.Rule.{without}
+use Rattle.sort.specs.Kept.{Kept, Searched}
+use Rattle.sort.proofs.Chosen.{taken}
 use Rattle.sort.proofs.Waits.{found-from, Free, Tried, free-on, free-past, lowest-found, tried-on, ready-found, none-found}
-use Rattle.sort.proofs.Waits.{kept-store, passed-store, tried-store}
+use Rattle.sort.proofs.Waits.{kept-store, searched-store, tried-store}
 use Rattle.sort.proofs.search.lowest_ready.Statement.{statement}
 use Rattle.sort.proofs.search.lowest_ready.Tie as tie
 
 abbrev Trying : List ℕ → ℕ → List ℕ → ℕ → Type 0
-Trying table left waits k = Kept waits × Passed (in-row table) (has left) waits × Tried (in-row table) (has left) waits k
+Trying table left waits k = Kept waits × Searched (in-row table) (has left) waits × Tried (in-row table) (has left) waits k
 
 abbrev Inv-loop : tie.InvT-loop
-Inv-loop table left waits₀ tried t s₀ waits s =
-    (s ≤ numbers) × (s < numbers → has left s ≡ true) × Free (in-row table) (has left) t s × Trying table left waits t
+Inv-loop table left waits₀ tried t others s₀ waits s =
+    (s ≤ numbers) × (s < numbers → without (has left) t s ≡ true) × Free (in-row table) (has left) t s × Trying table left waits t
 
 abbrev μ-loop : tie.MeasureT-loop
-μ-loop table left waits₀ tried t s₀ waits s = numbers - s
+μ-loop table left waits₀ tried t others s₀ waits s = numbers - s
 
 abbrev Inv-search : tie.InvT-search
 Inv-search table left waits₀ tried₀ waits tried = Trying table left waits tried
@@ -65,20 +68,37 @@ low c = omega (arith, found (c .before) .within, c .if1 .left)
 add-tried : tie.Need-add-tried Inv-loop μ-loop Inv-search μ-search
 add-tried c = omega (arith, low c)
 
+without-member-requires : tie.Need-without-member-requires Inv-loop μ-loop Inv-search μ-search
+without-member-requires c κs = low c
+
+-- the others that are left
+module _ (c : tie.After-without-member Inv-loop μ-loop Inv-search μ-search) where
+  abbrev chosen : tie.After-member-from Inv-loop μ-loop Inv-search μ-search
+  chosen = c .before .before
+
+  abbrev others : ℕ → Bool
+  others = without (has (left chosen)) (t chosen)
+
+  other-from : (k r : ℕ) → r ≡ first-from k numbers (has (c .without-member .result)) → FirstFrom others k numbers r
+  other-from k r e =
+      subst (λ p. FirstFrom p k numbers r) (taken (left chosen) (c .without-member .result) (t chosen) (c .without-member .ensures))
+      (found-from (has (c .without-member .result)) k r e)
+
 element-copy-out-member-from : tie.Need-element-copy-out-member-from Inv-loop μ-loop Inv-search μ-search
-element-copy-out-member-from c = low c
+element-copy-out-member-from c = low (c .before)
 
 cast-member-from : tie.Need-cast-member-from Inv-loop μ-loop Inv-search μ-search
-cast-member-from c = omega (arith, c .before .before .before .search .inv .0 .low (t (c .before .before)))
+cast-member-from c = let n = chosen (c .before) in omega (arith, n .before .search .inv .0 .low (t n))
 
 member-from-requires-2 : tie.Need-member-from-requires-2 Inv-loop μ-loop Inv-search μ-search
 member-from-requires-2 c κs = search needs
 
 loop-holds : tie.Need-loop-holds Inv-loop μ-loop Inv-search μ-search
 loop-holds c =
-    let n = c .before .before .before in
+    let o = c .before .before in
+    let n = chosen o in
     let w = n .before .search in
-    let v = found-from (has (left n)) (getD (w .waits) (t n) 0) (c .member-from2 .result) (c .member-from2 .ensures) in (
+    let v = other-from o (getD (w .waits) (t n) 0) (c .member-from2 .result) (c .member-from2 .ensures) in (
       v .within,
       (λ l. v .passes l .1),
       free-on (edge n) (has (left n)) (t n) (getD (w .waits) (t n) 0) (c .member-from2 .result) (w .inv .1 (t n)) v,
@@ -87,74 +107,82 @@ loop-holds c =
 
 -- at a turn
 module _ (c : tie.In-loop Inv-loop μ-loop Inv-search μ-search) where
-  abbrev chosen : tie.Else1 Inv-loop μ-loop Inv-search μ-search
-  chosen = c .before .before .before .before
+  abbrev o : tie.After-without-member Inv-loop μ-loop Inv-search μ-search
+  o = c .before .before .before .before
 
   abbrev n : tie.After-member-from Inv-loop μ-loop Inv-search μ-search
-  n = chosen .before
+  n = chosen o
 
   abbrev s : ℕ
   s = c .before .loop .s
 
-has-edge-requires : tie.Need-has-edge-requires Inv-loop μ-loop Inv-search μ-search
-has-edge-requires c κs = (c .loop-test .taken, low (chosen c))
+mul-has-member : tie.Need-mul-has-member Inv-loop μ-loop Inv-search μ-search
+mul-has-member c = omega (arith, c .loop-test .taken)
+
+element-copy-out-has-member : tie.Need-element-copy-out-has-member Inv-loop μ-loop Inv-search μ-search
+element-copy-out-has-member c = c .loop-test .taken
+
+has-member-requires : tie.Need-has-member-requires Inv-loop μ-loop Inv-search μ-search
+has-member-requires c κs = low (o (c .before) .before)
 
 cast-waits : tie.Need-cast-waits Inv-loop μ-loop Inv-search μ-search
-cast-waits c = omega (arith, c .before .before .loop-test .taken)
+cast-waits c = omega (arith, c .before .before .before .loop-test .taken)
 
 element-write-waits : tie.Need-element-write-waits Inv-loop μ-loop Inv-search μ-search
-element-write-waits c = low (chosen (c .before .before))
+element-write-waits c = low (o (c .before .before .before) .before)
 
 search-less : tie.Need-search-less Inv-loop μ-loop Inv-search μ-search
 search-less c =
-    let o = chosen (c .before .before) in
-    omega (arith, low o, found (o .before) .passes (low o) .0)
+    let e = o (c .before .before .before) .before in
+    omega (arith, low e, found (e .before) .passes (low e) .0)
 
 search-again : tie.Need-search-again Inv-loop μ-loop Inv-search μ-search
 search-again c =
-    let i = c .before .before in
+    let i = c .before .before .before in
     let l = i .before .loop in
-    let o = chosen i in
+    let m = i .loop-test .taken in
     let e = edge (n i) in
     let set = has (left (n i)) in
-    let inside = i .loop-test .taken in
-    let is-edge = sym (c .before .has-edge .ensures) ∙ c .if2 .taken in
-    let first = lowest-found e set (t (n i)) (s i) (l .inv .2) inside (l .inv .1 inside) is-edge in (
-      kept-store e set (l .waits) (t (n i)) (s i) (l .inv .3 .0) (low o) inside,
-      passed-store e set (l .waits) (t (n i)) (s i) (l .inv .3 .0) (low o) inside (l .inv .3 .1) (l .inv .2),
-      tried-store e set (l .waits) (t (n i)) (s i) (l .inv .3 .0) (low o) inside (l .inv .3 .2) first,
+    let x = t (n i) in
+    let there = low (o i .before) in
+    let is-edge = sym (c .before .has-member .ensures) ∙ c .if2 .taken in
+    let first = lowest-found e set x (s i) (l .inv .2) m (l .inv .1 m) is-edge in (
+      kept-store e set (l .waits) x (s i) (l .inv .3 .0) there m,
+      searched-store e set (l .waits) x (s i) (l .inv .3 .0) there m (l .inv .3 .1) (l .inv .2),
+      tried-store e set (l .waits) x (s i) (l .inv .3 .0) there m (l .inv .3 .2) first,
     )
 
 add-member-from : tie.Need-add-member-from Inv-loop μ-loop Inv-search μ-search
-add-member-from c = omega (arith, c .before .before .loop-test .taken)
+add-member-from c = omega (arith, c .before .before .before .loop-test .taken)
 
 member-from-requires-3 : tie.Need-member-from-requires-3 Inv-loop μ-loop Inv-search μ-search
 member-from-requires-3 c κs = search needs
 
--- the next predecessor that may be left
-onwards : (c : tie.After-member-from3 Inv-loop μ-loop Inv-search μ-search)
-    → FirstFrom (has (left (n (c .before .before .before)))) (s (c .before .before .before) + 1) numbers (c .member-from3 .result)
-onwards c =
-    let i = c .before .before .before in
-    found-from (has (left (n i))) (s i + 1) (c .member-from3 .result) (c .member-from3 .ensures)
+-- the next one that may be a predecessor
+module _ (c : tie.After-member-from3 Inv-loop μ-loop Inv-search μ-search) where
+  abbrev turn : tie.In-loop Inv-loop μ-loop Inv-search μ-search
+  turn = c .before .before .before .before
+
+  onwards : FirstFrom (others (o turn)) (s turn + 1) numbers (c .member-from3 .result)
+  onwards = other-from (o turn) (s turn + 1) (c .member-from3 .result) (c .member-from3 .ensures)
 
 loop-less : tie.Need-loop-less Inv-loop μ-loop Inv-search μ-search
 loop-less c = go (decLt (c .member-from3 .result) numbers)
   where
-    go : Dec (c .member-from3 .result < numbers) → numbers - c .member-from3 .result < numbers - s (c .before .before .before)
-    go (yes l) = omega (arith, onwards c .passes l .0, c .before .before .before .loop-test .taken)
-    go (no l) = omega (arith, l, c .before .before .before .loop-test .taken)
+    go : Dec (c .member-from3 .result < numbers) → numbers - c .member-from3 .result < numbers - s (turn c)
+    go (yes l) = omega (arith, onwards c .passes l .0, turn c .loop-test .taken)
+    go (no l) = omega (arith, l, turn c .loop-test .taken)
 
 loop-again : tie.Need-loop-again Inv-loop μ-loop Inv-search μ-search
 loop-again c =
-    let i = c .before .before .before in
+    let i = turn c in
     let l = i .before .loop in
     let e = edge (n i) in
-    let set = has (left (n i)) in (
+    let set = has (left (n i)) in
+    let no-edge = sym (c .before .before .has-member .ensures) ∙ c .before .if2 .left in (
       onwards c .within,
       (λ m. onwards c .passes m .1),
-      free-on e set (t (n i)) (s i + 1) (c .member-from3 .result)
-          (free-past e set (t (n i)) (s i) (l .inv .2) (sym (c .before .before .has-edge .ensures) ∙ c .before .if2 .left)) (onwards c),
+      free-on e set (t (n i)) (s i + 1) (c .member-from3 .result) (free-past e set (t (n i)) (s i) (l .inv .2) no-edge) (onwards c),
       l .inv .3,
     )
 
@@ -170,11 +198,12 @@ returns c =
 returns-2 : tie.Need-returns-2 Inv-loop μ-loop Inv-search μ-search
 returns-2 c =
     let l = c .before .loop in
-    let o = c .before .before .before .before in
-    let m = o .before in
+    let w = c .before .before .before .before in
+    let m = chosen w in
+    let there = low (w .before) in
     let set = has (left m) in
     let free : Free (edge m) set (t m) numbers = λ u z. l .inv .2 u (omega (arith, z, c .loop-test .left)) in
-    let is-next = ready-found (edge m) set (l .waits) (t m) (l .inv .3 .2) (low o) (found m .passes (low o) .1) free in (
+    let is-next = ready-found (edge m) set (l .waits) (t m) (l .inv .3 .2) there (found m .passes there .1) free in (
       sym is-next,
       (l .inv .3 .0, (l .inv .3 .1, λ e. absurd (Option·some-ne-none (t m) (sym is-next ∙ e)))),
     )
@@ -190,11 +219,14 @@ lowest-ready-spec =
     search-holds
     member-from-requires
     add-tried
+    without-member-requires
     element-copy-out-member-from
     cast-member-from
     member-from-requires-2
     loop-holds
-    has-edge-requires
+    mul-has-member
+    element-copy-out-has-member
+    has-member-requires
     cast-waits
     element-write-waits
     search-less

@@ -1,4 +1,4 @@
--- `sort::order::sort` meets its contract: the laws in Ends say what the rule gives where nobody is left, and where somebody is.
+-- `sort::sort` meets its contract: the laws in Ends say what the rule gives where none is left, and where one is.
 -- Assumes nothing.
 use borrow.Author.Needs.{needs}
 use native.Mathlib.Omega.{arith}
@@ -13,17 +13,17 @@ use Rattle.sets.specs.Bits.{numbers, has, in-row}
 use Rattle.sets.proofs.Tables.{empty-entry}
 use Rattle.sets.proofs.From.{FirstFrom}
 use Rattle.sort.specs.Rule.{LineOrCycle, line, cycle, length-of, members-of, placed, rest}
-use Rattle.sort.proofs.Waits.{found-from, kept-start, passed-start}
+use Rattle.sort.proofs.Waits.{found-from, kept-start, searched-start}
 use Rattle.sort.proofs.Ends.{line-fits, line-front, ends-in-line, ends-in-cycle}
-use Rattle.sort.proofs.order.sort.Statement.{statement}
-use Rattle.sort.proofs.order.sort.Tie as tie
+use Rattle.sort.proofs.sort.Statement.{statement}
+use Rattle.sort.proofs.sort.Tie as tie
 
 place-all-requires : tie.Need-place-all-requires
 place-all-requires c κs =
     let a = c .before .before .args in
     let blank = replicate {A = ℕ} 64 0 in (
       kept-start blank (empty-entry 64) (length-replicate {A = ℕ} 64 0),
-      passed-start blank (empty-entry 64) (in-row (now (a .table))) (has (a .set)),
+      searched-start blank (empty-entry 64) (in-row (now (a .table))) (has (a .set)),
     )
 
 member-from-requires : tie.Need-member-from-requires
@@ -78,8 +78,8 @@ returns c =
     let t = c .before .before .before in
     let m = t .before in
     let to = now (m .before .before .before .before .args .members) in
-    let nobody = subst (FirstFrom (left m) 0 numbers) (t .if1 .taken) (first-left m) in
-    let is-line = ends-in-line (edge m) (set m) (left m) (same-rest m) nobody in (
+    let none-left = subst (FirstFrom (left m) 0 numbers) (t .if1 .taken) (first-left m) in
+    let is-line = ends-in-line (edge m) (set m) (left m) (same-rest m) none-left in (
       ap line (counted m) ∙ sym (ap length-of is-line),
       c .write-part .ensures
           ∙ ap (λ (xs : List ℕ). sets to 0 (slice 0 (m .before .place-all .result .count) xs)) (is-placed m)
@@ -88,7 +88,7 @@ returns c =
           ∙ sym (ap (λ (o : LineOrCycle (List ℕ)). sets to 0 (members-of o)) is-line),
     )
 
--- where somebody is left
+-- where one is left
 low : (c : tie.Else1) → first (c .before) < numbers
 low c = omega (arith, first-left (c .before) .within, c .if1 .left)
 
