@@ -18,37 +18,56 @@ const ABOVE: [usize; 5] = [TRANSACTIONS as usize, 255, 256, 1 << 32, usize::MAX]
 /// What is asked of a log that does not pass: its refusal comes before 10.
 const OF_A_REFUSED_LOG: [Pair; 3] = [(0, 1), (TRANSACTIONS as usize, 0), (usize::MAX, usize::MAX)];
 
-/// The logs of a set that are asked all 64 × 64 pairs: of those that pass the first, and then one in so many. A log is read anew
-/// for each question, so that all pairs of every log would take too long.
+/// One in so many: the first, and then each so many further on.
+struct OneIn {
+    every: u64,
+    met: u64,
+}
+
+impl OneIn {
+    fn new(every: u64) -> OneIn {
+        OneIn { every, met: 0 }
+    }
+
+    /// Whether the next is one of them.
+    fn has_the_next(&mut self) -> bool {
+        let has = self.met % self.every == 0;
+        self.met += 1;
+        has
+    }
+}
+
+/// The logs of a set that are asked more: of those that pass, which are asked all 64 × 64 pairs, and of the others, which are asked an
+/// edge at all. A log is read anew for each question, so that all questions of every log would take too long.
 pub struct Share {
-    one_in: u64,
-    passed: u64,
+    passing: OneIn,
+    refused: OneIn,
 }
 
 impl Share {
-    pub fn one_in(logs: u64) -> Share {
+    pub fn one_in(passing: u64, refused: u64) -> Share {
         Share {
-            one_in: logs,
-            passed: 0,
+            passing: OneIn::new(passing),
+            refused: OneIn::new(refused),
         }
     }
 
-    /// Whether the next log that passes is one of them.
-    fn has_the_next(&mut self) -> bool {
-        let has = self.passed % self.one_in == 0;
-        self.passed += 1;
-        has
+    pub fn all() -> Share {
+        Share::one_in(1, 1)
     }
 }
 
 /// The first edge on which the two checkers differ, in words.
 pub fn difference(log: &[u8], share: &mut Share, tally: &mut EdgeTally) -> Option<String> {
     match Graph::of_log(log) {
-        Ok(graph) => difference_of_graph(log, &graph, share.has_the_next(), tally),
-        Err(refusal) => OF_A_REFUSED_LOG.into_iter().find_map(|pair| {
-            tally.refused_log += 1;
-            difference_at(log, pair, Err(refusal))
-        }),
+        Ok(graph) => difference_of_graph(log, &graph, share.passing.has_the_next(), tally),
+        Err(refusal) if share.refused.has_the_next() => {
+            OF_A_REFUSED_LOG.into_iter().find_map(|pair| {
+                tally.refused_log += 1;
+                difference_at(log, pair, Err(refusal))
+            })
+        }
+        Err(_) => None,
     }
 }
 

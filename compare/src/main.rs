@@ -1,17 +1,27 @@
-//! Holds the proved checker to the second checker, question by question, on every log of three sets.
+//! Holds the proved checker to the second checker, question by question, on every log of three
+//! sets, and its sort alone on tables that no log stands behind.
 //!
-//! The sets: the logs that document 01 names, with the answers that it states; every log of up to 5 records over 2 transactions,
-//! 2 items and 2 sites; and 120,000 logs of the maker from a stated seed. The questions:
+//! The sets of logs: those that document 01 names, with the answers that it states; every log of up
+//! to 5 records over 2 transactions, 2 items and 2 sites; and 120,000 logs of the maker from a
+//! stated seed. The questions:
 //!
 //! - of each log the check, and the source of every record, of one past the end and of the largest number;
 //! - of a log that passes the edge from each of its transactions to each, to and from some that are not in it, and to and from
 //!   numbers above 63; of every named one and of a share of the others all 64 × 64 edges;
-//! - of a log that does not pass three edges, each of which has to be refused as the check is.
+//! - of a share of the logs that do not pass three edges, each of which has to be refused as the check is.
 //!
-//! A kind of answer that was never met was not tried, and counts as a failure. The last line is `N passed, M failed`, a log each.
+//! The tables: every one of up to 4 transactions, also moved to other numbers; those without an
+//! edge and with every edge; and 100,000 of the maker of tables.
+//!
+//! A kind of answer that was never met was not tried, and counts as a failure. The last line is
+//! `N passed, M failed`, a log or a table each.
 
 mod edges;
+mod meaning;
 mod proved;
+mod sort_kinds;
+mod sort_tally;
+mod sorts;
 mod sources;
 mod stated;
 mod tally;
@@ -23,16 +33,17 @@ use second::named::{named, Named};
 use second::small;
 use tally::Tally;
 
-/// The maker's seed; another one makes other logs.
+/// The makers' seed; another one makes other logs and tables.
 const SEED: u64 = 8_191;
 
 /// How many logs of the maker are compared.
 const MADE: u64 = 120_000;
 
-/// Of the small logs and of the made ones that pass, one in so many is asked the edge of all 64 × 64 pairs. Primes, so that the
-/// share does not fall in step with the order in which the logs come.
-const SMALL_SHARE: u64 = 61;
+/// Of the small logs and of the made ones that pass, one in so many is asked the edge of all 64 × 64 pairs; of those that do not
+/// pass, one in so many is asked an edge at all. Primes, so that no share falls in step with the order in which the logs come.
+const SMALL_SHARE: u64 = 509;
 const MADE_SHARE: u64 = 251;
+const REFUSED_SHARE: u64 = 11;
 
 /// The first answer on which the two checkers differ, in words.
 fn difference(log: &[u8], share: &mut Share, tally: &mut Tally) -> Option<String> {
@@ -64,7 +75,7 @@ fn show_named(case: &Named, found: &Option<String>) {
 
 /// The named logs are few, so that each that passes is asked all 64 × 64 pairs.
 fn compare_named(tally: &mut Tally) {
-    let mut share = Share::one_in(1);
+    let mut share = Share::all();
     for case in named() {
         let found = stated::difference(&case).or_else(|| difference(&case.log, &mut share, tally));
         show_named(&case, &found);
@@ -73,7 +84,7 @@ fn compare_named(tally: &mut Tally) {
 }
 
 fn compare_small(tally: &mut Tally) {
-    let mut share = Share::one_in(SMALL_SHARE);
+    let mut share = Share::one_in(SMALL_SHARE, REFUSED_SHARE);
     small::for_each(small::LONGEST, |log| {
         let found = difference(log, &mut share, tally);
         tally.log("small", log, found);
@@ -81,7 +92,7 @@ fn compare_small(tally: &mut Tally) {
 }
 
 fn compare_made(tally: &mut Tally) {
-    let mut share = Share::one_in(MADE_SHARE);
+    let mut share = Share::one_in(MADE_SHARE, REFUSED_SHARE);
     for index in 0..MADE {
         let log = make(SEED, index);
         let found = difference(&log, &mut share, tally);
@@ -94,17 +105,17 @@ fn main() {
     compare_named(&mut tally);
     compare_small(&mut tally);
     compare_made(&mut tally);
+    sorts::compare(SEED, &mut tally);
     tally.print();
-    for what in tally.untried() {
+    let untried = tally.untried();
+    for what in &untried {
         println!("{what} was never met, so it was not tried");
-        tally.log("untried", &[], Some(what));
     }
-    println!(
-        "{} passed, {} failed",
-        tally.logs - tally.differing,
-        tally.differing
-    );
-    if tally.differing > 0 {
+    let differing = tally.logs.differing + tally.tables.differing;
+    let passed = tally.logs.all + tally.tables.all - differing;
+    let failed = differing + untried.len() as u64;
+    println!("{passed} passed, {failed} failed");
+    if failed > 0 {
         std::process::exit(1);
     }
 }

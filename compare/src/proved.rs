@@ -1,6 +1,8 @@
 //! The proved checker, called through the C face that include/fruscalenta.h declares.
 
 use second::check::Refusal;
+use second::sort::Sorted;
+use second::tables::{Table, ROWS};
 
 /// `struct fruscalenta_answer`.
 #[repr(C)]
@@ -8,6 +10,14 @@ struct Answer {
     number: u64,
     place: u64,
     value: u64,
+}
+
+/// `struct fruscalenta_sorted`.
+#[repr(C)]
+#[derive(Debug)]
+pub struct Coded {
+    cycle: u64,
+    length: u64,
 }
 
 /// `FRUSCALENTA_NONE`.
@@ -23,6 +33,7 @@ extern "C" {
     fn fruscalenta_check(log: *const u8, len: usize) -> Answer;
     fn fruscalenta_source_of_record(log: *const u8, len: usize, k: usize) -> Answer;
     fn fruscalenta_edge_between(log: *const u8, len: usize, i: usize, j: usize) -> Answer;
+    fn fruscalenta_sort(table: *const u64, set: u64, members: *mut u8) -> Coded;
 }
 
 /// The value of an answer, or its refusal. Three numbers that the header rules out show as a refusal that document 01 has not, so
@@ -75,4 +86,19 @@ pub fn edge_between(log: &[u8], i: usize, j: usize) -> Result<u8, Refusal> {
     byte(value(unsafe {
         fruscalenta_edge_between(log.as_ptr(), log.len(), i, j)
     })?)
+}
+
+/// The proved sort of a table. It writes the members of the line or of the cycle to the front of
+/// the buffer. Two numbers that the header rules out show as they are.
+pub fn sort(table: &Table, members: &mut [u8; ROWS]) -> Result<Sorted, Coded> {
+    // SAFETY: the header asks for 64 rows to read and 64 bytes to write.
+    let coded = unsafe { fruscalenta_sort(table.rows.as_ptr(), table.set, members.as_mut_ptr()) };
+    let written = usize::try_from(coded.length)
+        .ok()
+        .and_then(|length| members.get(..length));
+    match (coded.cycle, written) {
+        (0, Some(line)) => Ok(Sorted::Line(line.to_vec())),
+        (1, Some(cycle)) => Ok(Sorted::Cycle(cycle.to_vec())),
+        _ => Err(coded),
+    }
 }

@@ -1,9 +1,11 @@
-//! What the comparison met: how many logs, how many of each answer, and the logs on which the two checkers differ.
+//! What the comparison met: how many logs and tables, how many of each answer, and those on which
+//! the two checkers differ.
 
+use crate::sort_tally::SortTally;
 use second::check::Refusal;
 use second::notation::show;
 
-/// How many logs that differ are shown.
+/// How many logs that differ are shown, and how many tables.
 const SHOWN: u64 = 10;
 
 /// One past the highest refusal number of document 01.
@@ -13,7 +15,27 @@ const NUMBERS: usize = 11;
 const REASONS: usize = 4;
 
 /// How often the comparison met something, in words.
-struct Met(u64, String);
+pub struct Met(pub u64, pub String);
+
+/// How many logs or tables were compared, and on how many the two checkers differ.
+#[derive(Default)]
+pub struct Compared {
+    pub all: u64,
+    pub differing: u64,
+}
+
+impl Compared {
+    /// Counts one, and shows it where the two checkers differ on it.
+    pub fn count(&mut self, name: &str, difference: Option<String>, show: impl FnOnce() -> String) {
+        self.all += 1;
+        if let Some(difference) = difference {
+            self.differing += 1;
+            if self.differing <= SHOWN {
+                println!("DIFFERENT {name}: {difference}\n  {}", show());
+            }
+        }
+    }
+}
 
 /// The source questions of logs that pass, by their answers.
 #[derive(Default)]
@@ -72,11 +94,12 @@ impl EdgeTally {
 
 #[derive(Default)]
 pub struct Tally {
-    pub logs: u64,
-    pub differing: u64,
+    pub logs: Compared,
+    pub tables: Compared,
     pub checks: [u64; NUMBERS],
     pub sources: SourceTally,
     pub edges: EdgeTally,
+    pub sorts: SortTally,
 }
 
 impl Tally {
@@ -88,13 +111,8 @@ impl Tally {
 
     /// Counts a log, and shows it where the two checkers differ on it.
     pub fn log(&mut self, name: &str, log: &[u8], difference: Option<String>) {
-        self.logs += 1;
-        if let Some(difference) = difference {
-            self.differing += 1;
-            if self.differing <= SHOWN {
-                println!("DIFFERENT {name}: {difference}\n  log: {}", show(log));
-            }
-        }
+        self.logs
+            .count(name, difference, || format!("log: {}", show(log)));
     }
 
     fn met_by_checks(&self) -> Vec<Met> {
@@ -106,11 +124,12 @@ impl Tally {
     }
 
     /// All that the comparison has to meet, by what was asked.
-    fn met(&self) -> [(&'static str, Vec<Met>); 3] {
+    fn met(&self) -> [(&'static str, Vec<Met>); 4] {
         [
             ("checks", self.met_by_checks()),
             ("sources", self.sources.met()),
             ("edges", self.edges.met()),
+            ("sorts", self.sorts.met()),
         ]
     }
 
@@ -123,7 +142,8 @@ impl Tally {
         }
     }
 
-    /// What was never met. A checker could be wrong there and no log would show it, so that a count of 0 is a failure.
+    /// What was never met. A checker could be wrong there and nothing would show it, so that a
+    /// count of 0 is a failure.
     pub fn untried(&self) -> Vec<String> {
         let mut untried = Vec::new();
         for (question, met) in self.met() {

@@ -6,6 +6,7 @@ mod common;
 use second::check::check;
 use second::edges::{all_reasons, reasons};
 use second::history::History;
+use second::lines::smallest_line;
 use second::maker::{make, make_of, Family};
 use second::named::Stated;
 use second::notation::show;
@@ -116,7 +117,7 @@ fn compare(log: &[u8]) -> bool {
     facts.before.dedup();
     facts.writes.sort_unstable();
     facts.writes.dedup();
-    let smallest = common::smallest_line(&facts.members, |line| meets_the_conditions(line, &facts));
+    let smallest = smallest_line(&facts.members, |line| meets_the_conditions(line, &facts));
     match (common::full_answer(log, ANSWER_BYTES), smallest) {
         (Stated::Serial(line), Some(smallest)) => {
             assert_eq!(line, smallest, "{}", show(log));

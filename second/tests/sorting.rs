@@ -1,10 +1,9 @@
 //! The line or the cycle of random edges, against all permutations.
 
-mod common;
-
 use std::collections::BTreeSet;
 
 use second::generator::Generator;
+use second::lines::smallest_line;
 use second::sort::{sort, Sorted};
 
 type Edges = Vec<Vec<bool>>;
@@ -60,7 +59,7 @@ fn lines_are_the_smallest_and_cycles_are_cycles() {
         let percent = generator.pick(&[2, 10, 20, 30, 50]);
         let edges = random_edges(&mut generator, percent);
         let list: Vec<u8> = members.iter().copied().collect();
-        let smallest = common::smallest_line(&list, |line| keeps_every_edge(line, &edges));
+        let smallest = smallest_line(&list, |line| keeps_every_edge(line, &edges));
         match sort(&members, |i, j| holds(&edges, i, j)) {
             Sorted::Line(line) => {
                 assert_eq!(Some(line), smallest);

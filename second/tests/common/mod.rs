@@ -1,4 +1,4 @@
-//! What several tests share: permutations in order, and the answer as lists.
+//! What several tests share: the answer as lists.
 #![allow(dead_code)]
 
 use second::check::Refusal;
@@ -28,34 +28,5 @@ pub fn full_answer(log: &[u8], buffer: usize) -> Stated {
         }
         Answer::Cycle(_) => Stated::Cycle(pairs),
         Answer::Refused(Refusal { number, place }) => Stated::Refused(number, place),
-    }
-}
-
-/// Steps to the next permutation in the order of lists; false after the last.
-pub fn next_permutation(line: &mut [u8]) -> bool {
-    let fall = match (1..line.len()).rev().find(|&k| line[k - 1] < line[k]) {
-        Some(fall) => fall,
-        None => return false,
-    };
-    let larger = (fall..line.len())
-        .rev()
-        .find(|&k| line[k] > line[fall - 1])
-        .expect("the place of the fall itself is larger");
-    line.swap(fall - 1, larger);
-    line[fall..].reverse();
-    true
-}
-
-/// The first permutation of the members, in the order of lists, that fits.
-pub fn smallest_line(members: &[u8], fits: impl Fn(&[u8]) -> bool) -> Option<Vec<u8>> {
-    let mut line = members.to_vec();
-    line.sort_unstable();
-    loop {
-        if fits(&line) {
-            return Some(line);
-        }
-        if !next_permutation(&mut line) {
-            return None;
-        }
     }
 }

@@ -75,7 +75,7 @@ sub-write-part c = let l = c .before .before .before .before .before in omega (a
 write-part-requires-2 : tie.Need-write-part-requires-2
 write-part-requires-2 c κs =
     let l = c .before .before .before .before .before in
-    (w (f l) .walk-back .ensures .0, ((from l, omega (arith, to l, inside (f l))), omega (arith, from l, to l, inside (f l))))
+    (w (f l) .walk-back .ensures .0, ((omega (arith, from l), omega (arith, from l, to l, inside (f l))), omega (arith, from l, to l, inside (f l))))
 
 sub-result : tie.Need-sub-result
 sub-result c = let l = c .before .before .before .before .before .before in omega (arith, from l, to l)

@@ -117,13 +117,13 @@ module _ (c : tie.In-loop Inv-loop μ-loop Inv-search μ-search) where
   s = c .before .loop .s
 
 mul-has-member : tie.Need-mul-has-member Inv-loop μ-loop Inv-search μ-search
-mul-has-member c = omega (arith, c .loop-test .taken)
+mul-has-member c = omega (arith, c .loop-test .taken, low (o c .before))
 
 element-copy-out-has-member : tie.Need-element-copy-out-has-member Inv-loop μ-loop Inv-search μ-search
-element-copy-out-has-member c = c .loop-test .taken
+element-copy-out-has-member c = omega (arith, c .loop-test .taken, low (o c .before))
 
 has-member-requires : tie.Need-has-member-requires Inv-loop μ-loop Inv-search μ-search
-has-member-requires c κs = low (o (c .before) .before)
+has-member-requires c κs = omega (arith, c .before .loop-test .taken, low (o (c .before) .before))
 
 cast-waits : tie.Need-cast-waits Inv-loop μ-loop Inv-search μ-search
 cast-waits c = omega (arith, c .before .before .before .loop-test .taken)
