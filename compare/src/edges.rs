@@ -15,6 +15,9 @@ type Pair = (usize, usize);
 /// lowest half is looked at, and the largest of all.
 const ABOVE: [usize; 5] = [TRANSACTIONS as usize, 255, 256, 1 << 32, usize::MAX];
 
+/// The most transactions of a log whose pairs are asked, where not all 64 × 64 are.
+const MOST_ASKED: usize = 8;
+
 /// What is asked of a log that does not pass: its refusal comes before 10.
 const OF_A_REFUSED_LOG: [Pair; 3] = [(0, 1), (TRANSACTIONS as usize, 0), (usize::MAX, usize::MAX)];
 
@@ -60,7 +63,14 @@ impl Share {
 /// The first edge on which the two checkers differ, in words.
 pub fn difference(log: &[u8], share: &mut Share, tally: &mut EdgeTally) -> Option<String> {
     match Graph::of_log(log) {
-        Ok(graph) => difference_of_graph(log, &graph, share.passing.has_the_next(), tally),
+        Ok(graph) => {
+            let numbers = if share.passing.has_the_next() {
+                (0..usize::from(TRANSACTIONS)).collect()
+            } else {
+                graph.some_numbers(share.passing.met as usize)
+            };
+            difference_of_graph(log, &graph, &numbers, tally)
+        }
         Err(refusal) if share.refused.has_the_next() => {
             OF_A_REFUSED_LOG.into_iter().find_map(|pair| {
                 tally.refused_log += 1;
@@ -75,10 +85,10 @@ pub fn difference(log: &[u8], share: &mut Share, tally: &mut EdgeTally) -> Optio
 fn difference_of_graph(
     log: &[u8],
     graph: &Graph,
-    all: bool,
+    numbers: &BTreeSet<usize>,
     tally: &mut EdgeTally,
 ) -> Option<String> {
-    graph.pairs(all).into_iter().find_map(|pair| {
+    graph.pairs(numbers).into_iter().find_map(|pair| {
         let expected = graph.edge(pair);
         graph.count(pair, expected, tally);
         difference_at(log, pair, expected)
@@ -128,14 +138,9 @@ impl Graph {
 
     /// The pairs that are asked: each number beside each, also beside itself; and the numbers above 63 in either place, the other
     /// one's a transaction that is in the log, and in both.
-    fn pairs(&self, all: bool) -> Vec<Pair> {
-        let numbers = if all {
-            (0..usize::from(TRANSACTIONS)).collect()
-        } else {
-            self.numbers()
-        };
+    fn pairs(&self, numbers: &BTreeSet<usize>) -> Vec<Pair> {
         let mut pairs = Vec::new();
-        for &i in &numbers {
+        for &i in numbers {
             pairs.extend(numbers.iter().map(|&j| (i, j)));
         }
         let member = self.members.iter().next().copied().unwrap_or(0);
@@ -145,10 +150,14 @@ impl Graph {
         pairs
     }
 
-    /// The numbers that are asked where not all 64 are: the transactions in the log, the lowest that is not in it, and 63.
-    fn numbers(&self) -> BTreeSet<usize> {
-        let mut numbers = self.members.clone();
-        let absent = (0..usize::from(TRANSACTIONS)).find(|number| !numbers.contains(number));
+    /// The numbers that are asked where not all 64 are: transactions in the log, of many the next few from a place that turns from
+    /// log to log; the lowest that is not in it; and 63.
+    fn some_numbers(&self, turn: usize) -> BTreeSet<usize> {
+        let few = self.members.len().min(MOST_ASKED);
+        let start = turn % self.members.len().max(1);
+        let round = self.members.iter().cycle().skip(start);
+        let mut numbers: BTreeSet<usize> = round.take(few).copied().collect();
+        let absent = (0..usize::from(TRANSACTIONS)).find(|number| !self.members.contains(number));
         numbers.extend(absent);
         numbers.insert(usize::from(TRANSACTIONS) - 1);
         numbers

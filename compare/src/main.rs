@@ -6,8 +6,8 @@
 //! stated seed. The questions:
 //!
 //! - of each log the check, and the source of every record, of one past the end and of the largest number;
-//! - of a log that passes the edge from each of its transactions to each, to and from some that are not in it, and to and from
-//!   numbers above 63; of every named one and of a share of the others all 64 × 64 edges;
+//! - of a log that passes the edge from each of its transactions to each (of more than 8, among 8 of them), to and from some that are
+//!   not in it, and to and from numbers above 63; of every named one and of a share of the others all 64 × 64 edges;
 //! - of a share of the logs that do not pass three edges, each of which has to be refused as the check is.
 //!
 //! The tables: every one of up to 4 transactions, also moved to other numbers; those without an

@@ -85,7 +85,7 @@ fn against_second(got: &Answer, expected: &Sorted) -> Option<String> {
     }
 }
 
-/// "and all other bytes keep their content." Where the length is none, no byte is looked at.
+/// "and all other bytes keep their content." Where the length is no length, no byte is looked at.
 fn against_fill(got: &Answer, fill: &[u8; ROWS], members: &[u8; ROWS]) -> Option<String> {
     let written = match got {
         Ok(Sorted::Line(numbers) | Sorted::Cycle(numbers)) => numbers.len(),

@@ -1,4 +1,4 @@
-//! The generator of random numbers behind the maker of logs: splitmix64.
+//! The generator of random numbers behind the makers of logs and of tables: splitmix64.
 
 /// The step of splitmix64: 2^64 divided by the golden ratio, made odd.
 const STEP: u64 = 0x9E37_79B9_7F4A_7C15;

@@ -1,5 +1,5 @@
 //! The second checker: document 01 once more, by the plainest methods, for
-//! comparing its answers log by log with those of another checker.
+//! comparing its answers, log by log and table by table, with those of another checker.
 
 pub mod check;
 pub mod damage;

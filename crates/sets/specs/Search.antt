@@ -1,5 +1,5 @@
 -- Searches among the numbers below n, by a test that says yes or no of each number. All definitions of "some", "first" and
--- "last" in the crates above are one of these.
+-- "last" of numbers in the crates above are one of these.
 use Prim.Native.Nat.{ℕ, zero, suc, _+_}
 use mathlib.Core.Bool.{Bool, false, _&&_, _||_, cond}
 use mathlib.Core.Option.{Option, none, some, Option·getD}

@@ -1,4 +1,5 @@
 pub mod Lists
+pub mod Stands
 pub mod Chosen
 pub mod Clauses
 pub mod Placing

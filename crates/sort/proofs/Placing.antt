@@ -5,92 +5,25 @@ use Prim.Native.Nat.{ℕ, zero, suc, _<_, _≤_}
 use native.Mathlib.Omega.{arith}
 use native.Mathlib.Decide.{ℕ-discrete, decLt}
 use mathlib.Core.Path.{_≡_, refl, sym, _∙_, ap, subst}
-use mathlib.Core.Bool.{Bool, true, false, _&&_, not}
-use mathlib.Core.Logic.{_⊎_, inl, inr, ⊎-elim}
+use mathlib.Core.Bool.{Bool, true, false}
+use mathlib.Core.Logic.{_⊎_, ⊎-elim}
 use mathlib.Core.List.{List, [], _∷_}
 use mathlib.Core.Option.{Option, none, some}
-use lib.Dec.{eqb}
 use lib.ListN.{length}
-use borrow.Author.Tests.{eq-eqb, eqb-true}
 use Rattle.sets.specs.Search.{count-below}
 use Rattle.sets.specs.Paths.{Precedes, by-edge, edge-then, Acyclic}
-use Rattle.sets.proofs.Truth.{clash, refuted, and-true, and-left, and-right, or-cases, or-hit-left, or-hit-right}
+use Rattle.sets.proofs.Truth.{clash, refuted}
 use Rattle.sets.proofs.Searches.{First, first-some}
 use Rattle.sets.proofs.Counts.{count-none, count-some}
 use Rattle.sort.specs.Rule.{among, predecessor, without, ready, next, placed, rest}
 use Rattle.sort.specs.Lines.{NoneTwice, stands-before, edge-within, Below, Line, AtMost, ended, smaller, same-first, Stuck}
-use Rattle.sort.proofs.Lists.{among-nil, among-first, among-later, among-other, differ}
+use Rattle.sort.proofs.Lists.{among-nil, among-first, among-other, differ}
+use Rattle.sort.proofs.Stands.{stands-first, stands-later, stands-cases, after-first, stands-not-itself, stands-through}
 use Rattle.sort.proofs.Chosen.{without-itself, without-other, still-left, not-placed, one-fewer}
 use Rattle.sort.proofs.Chosen.{is-predecessor, predecessor-left, predecessor-other, predecessor-edge}
 use Rattle.sort.proofs.Chosen.{is-within, within-from, within-to, within-other, within-edge, within-more}
 use Rattle.sort.proofs.Clauses.{placed-zero, placed-none, placed-some, rest-zero, rest-none, rest-some}
 use Rattle.sort.proofs.Chosen.{is-ready, ready-left, ready-free, not-ready-out, next-view, none-next}
-
--- what stands before what
-stands-nil : (s t : ℕ) → stands-before [] s t ≡ false
-unfolding stands-before
-stands-nil s t = refl
-
-stands-first : (x : ℕ) (xs : List ℕ) (t : ℕ) → among xs t ≡ true → stands-before (x ∷ xs) x t ≡ true
-unfolding stands-before
-stands-first x xs t a =
-    or-hit-left (eqb x x && among xs t) (stands-before xs x t) (and-true (eqb x x) (among xs t) (eq-eqb x x refl) a)
-
-stands-later : (x : ℕ) (xs : List ℕ) (s t : ℕ) → stands-before xs s t ≡ true → stands-before (x ∷ xs) s t ≡ true
-unfolding stands-before
-stands-later x xs s t h = or-hit-right (eqb x s && among xs t) (stands-before xs s t) h
-
-stands-cases : (x : ℕ) (xs : List ℕ) (s t : ℕ) → stands-before (x ∷ xs) s t ≡ true
-    → ((x ≡ s) × (among xs t ≡ true)) ⊎ (stands-before xs s t ≡ true)
-unfolding stands-before
-stands-cases x xs s t h =
-    ⊎-elim
-    (λ (a : (eqb x s && among xs t) ≡ true). inl (eqb-true x s (and-left (eqb x s) (among xs t) a), and-right (eqb x s) (among xs t) a))
-    (λ (b : stands-before xs s t ≡ true). inr b)
-    (or-cases (eqb x s && among xs t) (stands-before xs s t) h)
-
--- what stands after something is in the list, and not first in it
-stands-among : (xs : List ℕ) (s t : ℕ) → stands-before xs s t ≡ true → among xs t ≡ true
-stands-among [] s t h = absurd (clash (stands-before [] s t) h (stands-nil s t))
-stands-among (x ∷ xs) s t h =
-    ⊎-elim
-    (λ (w : (x ≡ s) × (among xs t ≡ true)). among-later x xs t (w .1))
-    (λ (w : stands-before xs s t ≡ true). among-later x xs t (stands-among xs s t w))
-    (stands-cases x xs s t h)
-
-after-first : (x : ℕ) (xs : List ℕ) (s t : ℕ) → stands-before (x ∷ xs) s t ≡ true → among xs t ≡ true
-after-first x xs s t h =
-    ⊎-elim
-    (λ (w : (x ≡ s) × (among xs t ≡ true)). w .1)
-    (λ (w : stands-before xs s t ≡ true). stands-among xs s t w)
-    (stands-cases x xs s t h)
-
-stands-not-itself : (xs : List ℕ) (t : ℕ) → NoneTwice xs → stands-before xs t t ≡ true → ⊥
-stands-not-itself [] t d h = clash (stands-before [] t t) h (stands-nil t t)
-stands-not-itself (x ∷ xs) t d h =
-    ⊎-elim (λ (w : (x ≡ t) × (among xs t ≡ true)). clash (among xs x) (ap (among xs) (w .0) ∙ w .1) (d .0))
-    (λ (w : stands-before xs t t ≡ true). stands-not-itself xs t (d .1) w)
-    (stands-cases x xs t t h)
-
-stands-through : (xs : List ℕ) (r s t : ℕ) → NoneTwice xs → stands-before xs r s ≡ true → stands-before xs s t ≡ true
-    → stands-before xs r t ≡ true
-stands-through [] r s t d h k = absurd (clash (stands-before [] r s) h (stands-nil r s))
-stands-through (x ∷ xs) r s t d h k =
-    ⊎-elim
-    (λ (w : (x ≡ s) × (among xs t ≡ true)). absurd (clash (among xs x) (ap (among xs) (w .0) ∙ after-first x xs r s h) (d .0)))
-    (λ (w : stands-before xs s t ≡ true). both-later w (λ v. stands-through xs r s t (d .1) v w))
-    (stands-cases x xs s t k)
-  where
-    from-first : x ≡ r → among xs t ≡ true → stands-before (x ∷ xs) r t ≡ true
-    from-first q a = subst (λ (y : ℕ). stands-before (x ∷ xs) y t ≡ true) q (stands-first x xs t a)
-
-    both-later : stands-before xs s t ≡ true → (stands-before xs r s ≡ true → stands-before xs r t ≡ true)
-        → stands-before (x ∷ xs) r t ≡ true
-    both-later w ih =
-        ⊎-elim
-        (λ (v : (x ≡ r) × (among xs s ≡ true)). from-first (v .0) (stands-among xs s t w))
-        (λ (v : stands-before xs r s ≡ true). stands-later x xs r t (ih v))
-        (stands-cases x xs r s h)
 
 module _ (edge : ℕ → ℕ → Bool) where
   -- of a set with one in the list, one stands first in it

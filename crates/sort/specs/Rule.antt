@@ -47,7 +47,7 @@ to-lowest xs = turned (place-of (lowest xs) xs) xs
 -- "and so on until a transaction comes again. The transactions from its first coming on form the cycle." A step goes back from t, the
 -- front of the path, to some s. Where s is not on the path, it is put in front, so that the path stands along the edges. Where it is, the
 -- cycle is the path up to it. At most m steps; where they are used up, or there is no step back, nothing. (Neither occurs where each has
--- a predecessor and m is the number of members.)
+-- a predecessor and m is at least the number of members.)
 unfoldable pub walk : (ℕ → Option ℕ) → ℕ → ℕ → List ℕ → List ℕ
 walk back zero t path = []
 walk back (suc m) t path =

@@ -5,8 +5,8 @@ use crate::generator::Generator;
 use crate::record::TRANSACTIONS;
 use crate::tables::{bit, Table};
 
-/// The density at which there is every edge; a density counts the edges of so
-/// many cases.
+/// The density at which there is every edge: a density of d stands for an edge
+/// in d of so many cases.
 const ALL: usize = 1_024;
 
 /// The members of a set of any size, in an order that a table may follow.

@@ -1,4 +1,4 @@
--- `log::form::form_answer` meets its contract: in each arm the law for its kinds says which ranges are asked, and the arms'
+-- `format::form::form_answer` meets its contract: in each arm the law for its kinds says which ranges are asked, and the arms'
 -- own tests answer them. Assumes nothing.
 use borrow.Author.Needs.{needs}
 use borrow.Author.Tests.{lt-ltb, le-ltb, eq-eqb, ne-eqb}

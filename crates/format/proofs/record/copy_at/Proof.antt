@@ -1,4 +1,4 @@
--- `log::record::copy_at` meets its contract: the number is made of the record's item and site, which are within their limits.
+-- `format::record::copy_at` meets its contract: the number is made of the record's item and site, which are within their limits.
 -- Assumes nothing.
 use borrow.Author.Needs.{needs}
 use mathlib.Core.Path.{_∙_, ap₂}

@@ -1,4 +1,4 @@
--- `log::record::record_at` meets its contract: the four bytes stand within the log, and are what the definitions name.
+-- `format::record::record_at` meets its contract: the four bytes stand within the log, and are what the definitions name.
 -- Assumes nothing.
 use borrow.Author.Needs.{needs}
 use native.Mathlib.Omega.{arith}

@@ -1,4 +1,4 @@
--- `log::record::Copy::number` meets its contract: the code is the definition, and an item and a site within their limits keep the
+-- `format::record::Copy::number` meets its contract: the code is the definition, and an item and a site within their limits keep the
 -- number within its own. Assumes nothing.
 use borrow.Author.Needs.{needs}
 use native.Mathlib.Omega.{arith}
