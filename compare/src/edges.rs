@@ -21,6 +21,21 @@ const MOST_ASKED: usize = 8;
 /// What is asked of a log that does not pass: its refusal comes before 10.
 const OF_A_REFUSED_LOG: [Pair; 3] = [(0, 1), (TRANSACTIONS as usize, 0), (usize::MAX, usize::MAX)];
 
+/// The numbers that are asked of a log that passes: those below 64 each beside each, and those above.
+struct Asked {
+    numbers: BTreeSet<usize>,
+    above: Vec<usize>,
+}
+
+impl Asked {
+    fn all() -> Asked {
+        Asked {
+            numbers: (0..usize::from(TRANSACTIONS)).collect(),
+            above: ABOVE.to_vec(),
+        }
+    }
+}
+
 /// One in so many: the first, and then each so many further on.
 struct OneIn {
     every: u64,
@@ -64,12 +79,12 @@ impl Share {
 pub fn difference(log: &[u8], share: &mut Share, tally: &mut EdgeTally) -> Option<String> {
     match Graph::of_log(log) {
         Ok(graph) => {
-            let numbers = if share.passing.has_the_next() {
-                (0..usize::from(TRANSACTIONS)).collect()
+            let asked = if share.passing.has_the_next() {
+                Asked::all()
             } else {
-                graph.some_numbers(share.passing.met as usize)
+                graph.some(share.passing.met as usize)
             };
-            difference_of_graph(log, &graph, &numbers, tally)
+            difference_of_graph(log, &graph, &asked, tally)
         }
         Err(refusal) if share.refused.has_the_next() => {
             OF_A_REFUSED_LOG.into_iter().find_map(|pair| {
@@ -85,10 +100,10 @@ pub fn difference(log: &[u8], share: &mut Share, tally: &mut EdgeTally) -> Optio
 fn difference_of_graph(
     log: &[u8],
     graph: &Graph,
-    numbers: &BTreeSet<usize>,
+    asked: &Asked,
     tally: &mut EdgeTally,
 ) -> Option<String> {
-    graph.pairs(numbers).into_iter().find_map(|pair| {
+    graph.pairs(asked).into_iter().find_map(|pair| {
         let expected = graph.edge(pair);
         graph.count(pair, expected, tally);
         difference_at(log, pair, expected)
@@ -136,31 +151,36 @@ impl Graph {
         }
     }
 
-    /// The pairs that are asked: each number beside each, also beside itself; and the numbers above 63 in either place, the other
-    /// one's a transaction that is in the log, and in both.
-    fn pairs(&self, numbers: &BTreeSet<usize>) -> Vec<Pair> {
+    /// The pairs that are asked: each number beside each, also beside itself; and numbers above 63 in either place, the other one's a
+    /// transaction that is in the log, and in both.
+    fn pairs(&self, asked: &Asked) -> Vec<Pair> {
         let mut pairs = Vec::new();
-        for &i in numbers {
-            pairs.extend(numbers.iter().map(|&j| (i, j)));
+        for &i in &asked.numbers {
+            pairs.extend(asked.numbers.iter().map(|&j| (i, j)));
         }
         let member = self.members.iter().next().copied().unwrap_or(0);
-        for above in ABOVE {
+        for &above in &asked.above {
             pairs.extend([(member, above), (above, member), (above, above)]);
         }
         pairs
     }
 
-    /// The numbers that are asked where not all 64 are: transactions in the log, of many the next few from a place that turns from
-    /// log to log; the lowest that is not in it; and 63.
-    fn some_numbers(&self, turn: usize) -> BTreeSet<usize> {
+    /// What is asked where not all 64 × 64 pairs are. It turns from log to log: of many transactions in the log the next few, one
+    /// that is not in it, the lowest or 63, and one number above 63.
+    fn some(&self, turn: usize) -> Asked {
         let few = self.members.len().min(MOST_ASKED);
         let start = turn % self.members.len().max(1);
         let round = self.members.iter().cycle().skip(start);
         let mut numbers: BTreeSet<usize> = round.take(few).copied().collect();
-        let absent = (0..usize::from(TRANSACTIONS)).find(|number| !self.members.contains(number));
-        numbers.extend(absent);
-        numbers.insert(usize::from(TRANSACTIONS) - 1);
-        numbers
+        if turn % 2 == 0 {
+            numbers.extend((0..usize::from(TRANSACTIONS)).find(|t| !self.members.contains(t)));
+        } else {
+            numbers.insert(usize::from(TRANSACTIONS) - 1);
+        }
+        Asked {
+            numbers,
+            above: vec![ABOVE[turn % ABOVE.len()]],
+        }
     }
 
     /// Counts a question by what it asks for and by its answer.

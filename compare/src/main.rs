@@ -5,9 +5,10 @@
 //! to 5 records over 2 transactions, 2 items and 2 sites; and 120,000 logs of the maker from a
 //! stated seed. The questions:
 //!
-//! - of each log the check, and the source of every record, of one past the end and of the largest number;
-//! - of a log that passes the edge from each of its transactions to each (of more than 8, among 8 of them), to and from some that are
-//!   not in it, and to and from numbers above 63; of every named one and of a share of the others all 64 × 64 edges;
+//! - of each log the check, and the source of every record (of a long log, of some and of the last), of one past the end and of the
+//!   largest number;
+//! - of a log that passes the edge from each of its transactions to each (of more than 8, among 8 of them), to and from one that is not
+//!   in it, and to and from a number above 63; of every named one and of a share of the others all 64 × 64 edges;
 //! - of a share of the logs that do not pass three edges, each of which has to be refused as the check is.
 //!
 //! The tables: every one of up to 4 transactions, also moved to other numbers; those without an
@@ -42,7 +43,7 @@ const MADE: u64 = 120_000;
 /// Of the small logs and of the made ones that pass, one in so many is asked the edge of all 64 × 64 pairs; of those that do not
 /// pass, one in so many is asked an edge at all. Primes, so that no share falls in step with the order in which the logs come.
 const SMALL_SHARE: u64 = 509;
-const MADE_SHARE: u64 = 251;
+const MADE_SHARE: u64 = 1_009;
 const REFUSED_SHARE: u64 = 11;
 
 /// The first answer on which the two checkers differ, in words.

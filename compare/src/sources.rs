@@ -19,11 +19,24 @@ impl Sources {
     }
 }
 
+/// The most records of a long log that are asked, apart from its last. A log is read anew for each question, so that all records
+/// of every log would take too long.
+const MOST_ASKED: usize = 64;
+
+/// The records that are asked: every one of a short log, and of a long one each so many further on, from a place that its content
+/// decides; the last; one past the end; and the largest number.
+fn asked(log: &[u8]) -> impl Iterator<Item = usize> {
+    let past = log.len() / RECORD_BYTES;
+    let step = past / MOST_ASKED + 1;
+    let start = log.iter().map(|&byte| usize::from(byte)).sum::<usize>() % step;
+    let last = past.saturating_sub(1);
+    (start..last).step_by(step).chain([last, past, usize::MAX])
+}
+
 /// The first source on which the two checkers differ, in words.
 pub fn difference(log: &[u8], tally: &mut SourceTally) -> Option<String> {
     let sources = Sources(sources_of_log(log));
-    let past = log.len() / RECORD_BYTES;
-    for k in (0..=past).chain([usize::MAX]) {
+    for k in asked(log) {
         let expected = sources.at(log, k);
         let got = proved::source_of_record(log, k);
         if got != expected {
