@@ -50,7 +50,7 @@ module _ (edge : ℕ → ℕ → Bool) where
   -- THEOREM: from a rest in which every member has a predecessor in the rest no line exists, neither of the rest nor of a set that has it
   pub no-line : (set left : ℕ → Bool) → Stuck edge left → ((t : ℕ) → left t ≡ true → set t ≡ true) → (xs : List ℕ) → Line edge set xs → ⊥
   no-line set left stuck sub xs l =
-      let u = stuck .someone in
+      let u = stuck .some-left in
       let f = first-of left xs (u .0) (l .none-twice) (l .all-and-only (u .0) ∙ sub (u .0) (u .1)) (u .1) in
       let t = f .0 in
       let s = stuck .waits t (f .1) .0 in

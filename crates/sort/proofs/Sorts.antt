@@ -35,7 +35,7 @@ cycle-more edge small large m xs c =
 module _ (n : ℕ) (edge : ℕ → ℕ → Bool) where
   -- a rest in which none can be placed, and one is left, is stuck
   pub none-next-stuck : (left : ℕ → Bool) (u : ℕ) → left u ≡ true → Below n left → next n edge left ≡ none → Stuck edge left
-  none-next-stuck left u l low e = record { someone = (u, l); waits = λ t h. waiting edge n left t h (next-none edge n left e t (low t h)) }
+  none-next-stuck left u l low e = record { some-left = (u, l); waits = λ t h. waiting edge n left t h (next-none edge n left e t (low t h)) }
 
   -- the cycle that is found from t
   module _ (left : ℕ → Bool) (low : Below n left) (stuck : Stuck edge left) (t : ℕ) (l : left t ≡ true) where

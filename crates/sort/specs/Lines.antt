@@ -63,7 +63,7 @@ FromLowest (x ∷ xs) = (t : ℕ) → among xs t ≡ true → x ≤ t
 
 -- a rest of which none can be placed: it has a member, and every member has a predecessor in it
 pub record Stuck (edge : ℕ → ℕ → Bool) (left : ℕ → Bool) : Type 0 where
-  pub someone : (t : ℕ) × (left t ≡ true)
+  pub some-left : (t : ℕ) × (left t ≡ true)
   pub waits : (t : ℕ) → left t ≡ true → (s : ℕ) × (predecessor edge left t s ≡ true)
 
 -- what a line or a cycle says of the edges and the set
