@@ -1,4 +1,5 @@
-// The C face of the checker: exports on byte slices, tables and plain numbers, thin over the crates below. include/fruscalenta.h declares them.
+// The C face of the checker: exports on byte slices, tables and plain numbers, thin over the crates below. include/fruscalenta.h declares
+// them.
 ghost use mathlib.Core.Path.{_≡_};
 ghost use lib.Seq.{sets};
 ghost use Rattle.sets.specs.Bits.{numbers, has, in-row};

@@ -1,14 +1,14 @@
--- Laws of the count of the numbers below n that pass a test: at most n, none where nothing passes, and one less without one of them.
--- Assumes nothing.
+-- Laws of the count of the numbers below n that pass a test: at most n, none where nothing passes, and one less where one of them is taken
+-- out; and of a test with one taken out. Assumes nothing.
 use Prim.Native.Nat.{ℕ, zero, suc, _+_, _<_, _≤_}
 use native.Mathlib.Omega.{arith}
 use mathlib.Core.Path.{_≡_, refl, sym, _∙_, ap, ap₂}
 use mathlib.Core.Bool.{Bool, true, false, _&&_, not, cond}
 use mathlib.Core.Logic.{⊎-elim}
 use lib.Dec.{eqb}
-use borrow.Author.Tests.{eq-eqb, ne-eqb}
-use Rattle.sets.specs.Search.{count-below}
-use Rattle.sets.proofs.Truth.{and-always, and-nothing}
+use borrow.Author.Tests.{eq-eqb, ne-eqb, eqb-false, not-true}
+use Rattle.sets.specs.Search.{count-below, without}
+use Rattle.sets.proofs.Truth.{and-left, and-right, and-always, and-nothing}
 use Rattle.sets.proofs.Searches.{below-cases}
 
 -- at most one for each number
@@ -44,36 +44,39 @@ count-some p (suc n) e l h =
     here : e ≡ n → 1 ≤ cond (p n) 1 0 + count-below n p
     here q = rw (ap p (sym q) ∙ h) (omega arith)
 
--- without one of them
+-- a test without t
 module _ (p : ℕ → Bool) (t : ℕ) where
-  others : ℕ → Bool
-  others s = p s && not (eqb t s)
+  pub without-said : (s : ℕ) → (p s && not (eqb t s)) ≡ without p t s
+  unfolding without
+  without-said s = refl
 
-  other-same : (s : ℕ) → (t ≡ s → ⊥) → p s ≡ others s
-  unfolding others
-  other-same s q = sym (ap (λ (b : Bool). p s && not b) (ne-eqb t s q) ∙ and-always (p s))
+  pub without-itself : without p t t ≡ false
+  without-itself = sym (without-said t) ∙ ap (λ (b : Bool). p t && not b) (eq-eqb t t refl) ∙ and-nothing (p t)
 
-  other-itself : others t ≡ false
-  unfolding others
-  other-itself = ap (λ (b : Bool). p t && not b) (eq-eqb t t refl) ∙ and-nothing (p t)
+  pub without-other : (s : ℕ) → (t ≡ s → ⊥) → without p t s ≡ p s
+  without-other s q = sym (without-said s) ∙ ap (λ (b : Bool). p s && not b) (ne-eqb t s q) ∙ and-always (p s)
 
-  one-less : (n : ℕ) → t < n → p t ≡ true → count-below n p ≡ suc (count-below n others)
+  pub passed-before : (s : ℕ) → without p t s ≡ true → p s ≡ true
+  passed-before s h = and-left (p s) (not (eqb t s)) (without-said s ∙ h)
+
+  pub is-another : (s : ℕ) → without p t s ≡ true → t ≡ s → ⊥
+  is-another s h = eqb-false t s (not-true (eqb t s) (and-right (p s) (not (eqb t s)) (without-said s ∙ h)))
+
+  -- one less than before
+  pub count-without : (n : ℕ) → t < n → p t ≡ true → count-below n p ≡ suc (count-below n (without p t))
   unfolding count-below
-  one-less zero l h = absurd (omega arith)
-  one-less (suc n) l h = ⊎-elim (λ (m : t < n). before m (one-less n m h)) (λ (q : t ≡ n). here q) (below-cases n t l)
+  count-without zero l h = absurd (omega arith)
+  count-without (suc n) l h =
+      ⊎-elim (λ (m : t < n). before m (count-without n m h)) (λ (q : t ≡ n). here q) (below-cases n t l)
     where
-      before : t < n → count-below n p ≡ suc (count-below n others)
-          → cond (p n) 1 0 + count-below n p ≡ suc (cond (others n) 1 0 + count-below n others)
-      before m e = rw (e, other-same n (λ (z : t ≡ n). omega (arith, m, z))) (omega arith)
+      before : t < n → count-below n p ≡ suc (count-below n (without p t))
+          → cond (p n) 1 0 + count-below n p ≡ suc (cond (without p t n) 1 0 + count-below n (without p t))
+      before m e = rw (e, without-other n (λ (z : t ≡ n). omega (arith, m, z))) (omega arith)
 
-      here : t ≡ n → cond (p n) 1 0 + count-below n p ≡ suc (cond (others n) 1 0 + count-below n others)
+      here : t ≡ n → cond (p n) 1 0 + count-below n p ≡ suc (cond (without p t n) 1 0 + count-below n (without p t))
       here q = rw (
         ← q,
         h,
-        other-itself,
-        count-same p others t (λ e m. other-same e (λ (z : t ≡ e). omega (arith, m, z))),
+        without-itself,
+        count-same (without p t) p t (λ e m. without-other e (λ (z : t ≡ e). omega (arith, m, z))),
       ) (omega arith)
-
-  pub count-without : (n : ℕ) → t < n → p t ≡ true → count-below n p ≡ suc (count-below n (λ s. p s && not (eqb t s)))
-  unfolding others
-  count-without n l h = one-less n l h

@@ -1,9 +1,9 @@
 -- Searches among the numbers below n, by a test that says yes or no of each number. All definitions of "some", "first" and
 -- "last" of numbers in the crates above are one of these.
 use Prim.Native.Nat.{ℕ, zero, suc, _+_}
-use mathlib.Core.Bool.{Bool, false, _&&_, _||_, cond}
+use mathlib.Core.Bool.{Bool, false, _&&_, _||_, not, cond}
 use mathlib.Core.Option.{Option, none, some, Option·getD}
-use lib.Dec.{leb}
+use lib.Dec.{eqb, leb}
 
 -- some number below n passes the test
 unfoldable pub some-below : ℕ → (ℕ → Bool) → Bool
@@ -37,3 +37,7 @@ first-from k n p = Option·getD (first-below n (λ e. leb k e && p e)) n
 unfoldable pub count-below : ℕ → (ℕ → Bool) → ℕ
 count-below zero p = 0
 count-below (suc n) p = cond (p n) 1 0 + count-below n p
+
+-- the test that t no longer passes, and everything else as before
+unfoldable pub without : (ℕ → Bool) → ℕ → ℕ → Bool
+without p t s = p s && not (eqb t s)

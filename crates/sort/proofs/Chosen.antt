@@ -1,40 +1,18 @@
--- Laws of the rule's tests: who is a predecessor, who is ready, who is next, who is left when one is placed. Assumes nothing.
-use Prim.Native.Nat.{ℕ, suc, _<_}
+-- Laws of the rule's tests: who is a predecessor, who is ready, who is next. Assumes nothing.
+use Prim.Native.Nat.{ℕ, _<_}
 use mathlib.Core.Path.{_≡_, refl, sym, _∙_, ap, fun-ext}
 use mathlib.Core.Bool.{Bool, true, false, _&&_, not}
 use mathlib.Core.Option.{none, some}
 use lib.Dec.{eqb}
-use borrow.Author.Tests.{eq-eqb, ne-eqb, eqb-false, not-true}
+use borrow.Author.Tests.{ne-eqb, eqb-false, not-true}
 use Rattle.sets.specs.Bits.{has}
-use Rattle.sets.specs.Search.{some-below, count-below}
-use Rattle.sets.proofs.Truth.{clash, refuted, and-true, and-left, and-right, and-always, and-nothing}
+use Rattle.sets.specs.Search.{some-below, without}
+use Rattle.sets.proofs.Truth.{clash, refuted, and-true, and-left, and-right}
 use Rattle.sets.proofs.Searches.{None, First, first-some, first-found, some-none, none-some, first-view, first-none-below}
 use Rattle.sets.proofs.Searches.{first-hit, first-miss, some-found}
-use Rattle.sets.proofs.Counts.{count-without, count-same}
-use Rattle.sort.specs.Rule.{predecessor, without, ready, next, lowest-predecessor}
+use Rattle.sets.proofs.Counts.{without-other, without-said}
+use Rattle.sort.specs.Rule.{predecessor, ready, next, lowest-predecessor}
 use Rattle.sort.specs.Lines.{edge-within}
-
--- those left without t
-module _ (left : ℕ → Bool) (t : ℕ) where
-  pub without-said : (s : ℕ) → (left s && not (eqb t s)) ≡ without left t s
-  unfolding without
-  without-said s = refl
-
-  pub without-itself : without left t t ≡ false
-  without-itself = sym (without-said t) ∙ ap (λ (b : Bool). left t && not b) (eq-eqb t t refl) ∙ and-nothing (left t)
-
-  pub without-other : (s : ℕ) → (t ≡ s → ⊥) → without left t s ≡ left s
-  without-other s q = sym (without-said s) ∙ ap (λ (b : Bool). left s && not b) (ne-eqb t s q) ∙ and-always (left s)
-
-  pub still-left : (s : ℕ) → without left t s ≡ true → left s ≡ true
-  still-left s h = and-left (left s) (not (eqb t s)) (without-said s ∙ h)
-
-  pub not-placed : (s : ℕ) → without left t s ≡ true → t ≡ s → ⊥
-  not-placed s h = eqb-false t s (not-true (eqb t s) (and-right (left s) (not (eqb t s)) (without-said s ∙ h)))
-
-  pub one-fewer : (n : ℕ) → t < n → left t ≡ true → count-below n left ≡ suc (count-below n (without left t))
-  one-fewer n l h =
-      count-without left t n l h ∙ ap suc (count-same (λ s. left s && not (eqb t s)) (without left t) n (λ s m. without-said s))
 
 -- a set with one taken out, as the rule has it
 pub taken : (left fewer t : ℕ) → ((s : ℕ) → has fewer s ≡ (has left s && not (eqb t s))) → has fewer ≡ without (has left) t

@@ -10,7 +10,8 @@ use lib.ListN.{length, take, drop}
 use lib.Seq.{sets, slice, sets-eq, take-at}
 use Rattle.sets.specs.Bits.{numbers}
 use Rattle.sets.proofs.From.{FirstFrom}
-use Rattle.sort.specs.Rule.{among, without, next, placed, rest, lowest-predecessor, walk, to-lowest, sorted, line, cycle}
+use Rattle.sets.specs.Search.{without}
+use Rattle.sort.specs.Rule.{among, next, placed, rest, lowest-predecessor, walk, to-lowest, sorted, line, cycle}
 use Rattle.sort.specs.Kept.{Blocked, back}
 use Rattle.sort.proofs.Chosen.{predecessor-left, lowest-is}
 use Rattle.sort.proofs.Clauses.{placed-zero, placed-none, placed-some, sorted-line, sorted-cycle, walk-zero, walk-lost}

@@ -4,15 +4,16 @@ use Prim.Native.Nat.{ℕ, zero, suc, _+_, _<_, _≤_}
 use native.Mathlib.Omega.{arith}
 use native.Mathlib.Decide.{ℕ-discrete}
 use mathlib.Core.Path.{_≡_, refl, sym, _∙_, ap, subst}
-use mathlib.Core.Bool.{Bool, true, false, _&&_, _||_, not}
+use mathlib.Core.Bool.{Bool, true, false, _||_}
 use mathlib.Core.Logic.{_⊎_, inl, inr, ⊎-elim}
 use mathlib.Core.List.{List, [], _∷_, _++_}
 use lib.Dec.{eqb}
-use lib.ListN.{length, take, getD}
+use lib.ListN.{length, take, getD, length-append}
+use lib.Seq.{getD-append-seam}
 use borrow.Author.Tests.{eq-eqb, ne-eqb, eqb-true}
-use Rattle.sets.specs.Search.{count-below}
-use Rattle.sets.proofs.Truth.{clash, refuted, and-true, or-cases, or-hit-left, or-hit-right, or-left, or-right, or-false}
-use Rattle.sets.proofs.Counts.{count-without}
+use Rattle.sets.specs.Search.{count-below, without}
+use Rattle.sets.proofs.Truth.{clash, refuted, or-cases, or-hit-left, or-hit-right, or-left, or-right, or-false}
+use Rattle.sets.proofs.Counts.{count-without, without-other}
 use Rattle.sort.specs.Rule.{among, place-of, up-to}
 use Rattle.sort.specs.Lines.{NoneTwice}
 
@@ -93,6 +94,7 @@ pub record UpTo (s : ℕ) (xs : List ℕ) : Type 0 where
   pub after : List ℕ
   pub whole : xs ≡ before ++ s ∷ after
   pub part : up-to s xs ≡ before ++ s ∷ []
+  pub place : place-of s xs ≡ length before
 
 place-nil : (s : ℕ) → place-of s [] ≡ 0
 unfolding place-of
@@ -117,6 +119,7 @@ first-there s (x ∷ xs) h = go (ℕ-discrete x s) (λ q. first-there s xs (sym 
           after = xs;
           whole = ap (λ (y : ℕ). y ∷ xs) q;
           part = ap (λ (k : ℕ). take (suc k) (x ∷ xs)) (place-same x xs s q) ∙ ap (λ (y : ℕ). y ∷ []) q;
+          place = place-same x xs s q;
         }
     go (no q) w =
         record {
@@ -124,24 +127,21 @@ first-there s (x ∷ xs) h = go (ℕ-discrete x s) (λ q. first-there s xs (sym 
           after = w q .after;
           whole = ap (λ (ys : List ℕ). x ∷ ys) (w q .whole);
           part = ap (λ (k : ℕ). take (suc k) (x ∷ xs)) (place-other x xs s q) ∙ ap (λ (ys : List ℕ). x ∷ ys) (w q .part);
+          place = place-other x xs s q ∙ ap suc (w q .place);
         }
 
 -- the place of a number that is in the list
 pub place-low : (s : ℕ) (xs : List ℕ) → among xs s ≡ true → place-of s xs < length xs
-place-low s [] h = absurd (clash (among [] s) h (among-nil s))
-place-low s (x ∷ xs) h = go (ℕ-discrete x s) (λ q. place-low s xs (sym (among-other x xs s q) ∙ h))
-  where
-    go : Dec (x ≡ s) → ((x ≡ s → ⊥) → place-of s xs < length xs) → place-of s (x ∷ xs) < suc (length xs)
-    go (yes q) l = rw (place-same x xs s q) (omega arith)
-    go (no q) l = rw (place-other x xs s q) (omega (arith, l q))
+place-low s xs h =
+    let u = first-there s xs h in
+    omega (arith, u .place, ap length (u .whole) ∙ length-append (u .before) (s ∷ u .after))
 
 pub place-entry : (s : ℕ) (xs : List ℕ) → among xs s ≡ true → getD xs (place-of s xs) 0 ≡ s
-place-entry s [] h = absurd (clash (among [] s) h (among-nil s))
-place-entry s (x ∷ xs) h = go (ℕ-discrete x s) (λ q. place-entry s xs (sym (among-other x xs s q) ∙ h))
-  where
-    go : Dec (x ≡ s) → ((x ≡ s → ⊥) → getD xs (place-of s xs) 0 ≡ s) → getD (x ∷ xs) (place-of s (x ∷ xs)) 0 ≡ s
-    go (yes q) e = ap (λ (k : ℕ). getD (x ∷ xs) k 0) (place-same x xs s q) ∙ q
-    go (no q) e = ap (λ (k : ℕ). getD (x ∷ xs) k 0) (place-other x xs s q) ∙ e q
+place-entry s xs h =
+    let u = first-there s xs h in
+    ap (λ (k : ℕ). getD xs k 0) (u .place)
+    ∙ ap (λ (ys : List ℕ). getD ys (length (u .before)) 0) (u .whole)
+    ∙ getD-append-seam (u .before) s (u .after) 0
 
 -- a place where s stands, and no s before it
 pub place-is : (s : ℕ) (xs : List ℕ) (k : ℕ) → k < length xs → getD xs k 0 ≡ s → ((j : ℕ) → j < k → getD xs j 0 ≡ s → ⊥) → place-of s xs ≡ k
@@ -171,13 +171,10 @@ pub pigeonhole : (n : ℕ) (p : ℕ → Bool) (xs : List ℕ) → NoneTwice xs �
     → length xs ≤ count-below n p
 pigeonhole n p [] h m = omega arith
 pigeonhole n p (x ∷ xs) h m =
-    let first = m x (among-first x xs) in
-    rw (count-without p x n (first .0) (first .1)) (more (pigeonhole n (λ s. p s && not (eqb x s)) xs (h .1) others))
+    let here = m x (among-first x xs) in
+    omega (arith, count-without p x n (here .0) (here .1), pigeonhole n (without p x) xs (h .1) others)
   where
-    more : length xs ≤ count-below n (λ s. p s && not (eqb x s)) → suc (length xs) ≤ suc (count-below n (λ s. p s && not (eqb x s)))
-    more l = omega (arith, l)
-
-    others : (t : ℕ) → among xs t ≡ true → (t < n) × ((p t && not (eqb x t)) ≡ true)
+    others : (t : ℕ) → among xs t ≡ true → (t < n) × (without p x t ≡ true)
     others t a =
         let w = m t (among-later x xs t a) in
-        (w .0, and-true (p t) (not (eqb x t)) (w .1) (ap not (ne-eqb x t (λ (e : x ≡ t). differ (among xs) t x a (h .0) (sym e)))))
+        (w .0, without-other p x t (λ (e : x ≡ t). differ (among xs) t x a (h .0) (sym e)) ∙ w .1)

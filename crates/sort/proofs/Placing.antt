@@ -10,16 +10,15 @@ use mathlib.Core.Logic.{_⊎_, ⊎-elim}
 use mathlib.Core.List.{List, [], _∷_}
 use mathlib.Core.Option.{Option, none, some}
 use lib.ListN.{length}
-use Rattle.sets.specs.Search.{count-below}
+use Rattle.sets.specs.Search.{count-below, without}
 use Rattle.sets.specs.Paths.{Precedes, by-edge, edge-then, Acyclic}
 use Rattle.sets.proofs.Truth.{clash, refuted}
 use Rattle.sets.proofs.Searches.{First, first-some}
-use Rattle.sets.proofs.Counts.{count-none, count-some}
-use Rattle.sort.specs.Rule.{among, predecessor, without, ready, next, placed, rest}
+use Rattle.sets.proofs.Counts.{count-none, count-some, count-without, is-another, passed-before, without-itself, without-other}
+use Rattle.sort.specs.Rule.{among, predecessor, ready, next, placed, rest}
 use Rattle.sort.specs.Lines.{NoneTwice, stands-before, edge-within, Below, Line, AtMost, ended, smaller, same-first, Stuck}
 use Rattle.sort.proofs.Lists.{among-nil, among-first, among-other, differ}
 use Rattle.sort.proofs.Stands.{stands-first, stands-later, stands-cases, after-first, stands-not-itself, stands-through}
-use Rattle.sort.proofs.Chosen.{without-itself, without-other, still-left, not-placed, one-fewer}
 use Rattle.sort.proofs.Chosen.{is-predecessor, predecessor-left, predecessor-other, predecessor-edge}
 use Rattle.sort.proofs.Chosen.{is-within, within-from, within-to, within-other, within-edge, within-more}
 use Rattle.sort.proofs.Clauses.{placed-zero, placed-none, placed-some, rest-zero, rest-none, rest-some}
@@ -77,7 +76,7 @@ module _ (edge : ℕ → ℕ → Bool) where
     Steps left (t ∷ ts) = (ready n edge left t ≡ true) × Steps (without left t) ts
 
     low-without : (left : ℕ → Bool) (t : ℕ) → Below n left → Below n (without left t)
-    low-without left t low s h = low s (still-left left t s h)
+    low-without left t low s h = low s (passed-before left t s h)
 
     -- what is made place by place is a line that keeps every edge
     placed-first : (left : ℕ → Bool) (x : ℕ) (xs : List ℕ) → Below n left → ready n edge left x ≡ true → Line edge (without left x) xs
@@ -139,9 +138,9 @@ module _ (edge : ℕ → ℕ → Bool) where
 
         keeps : (s t : ℕ) → edge-within edge (without left x) s t ≡ true → stands-before xs s t ≡ true
         keeps s t h =
-            ⊎-elim (λ (w : (x ≡ s) × (among xs t ≡ true)). absurd (not-placed left x s (within-from edge (without left x) s t h) (w .0)))
+            ⊎-elim (λ (w : (x ≡ s) × (among xs t ≡ true)). absurd (is-another left x s (within-from edge (without left x) s t h) (w .0)))
             (λ (w : stands-before xs s t ≡ true). w)
-            (stands-cases x xs s t (l .keeps-edges s t (within-more edge (without left x) left (still-left left x) s t h)))
+            (stands-cases x xs s t (l .keeps-edges s t (within-more edge (without left x) left (passed-before left x) s t h)))
 
     pub line-steps : (left : ℕ → Bool) (xs : List ℕ) → Line edge left xs → Steps left xs
     line-steps left [] l = λ t. sym (l .all-and-only t) ∙ among-nil t
@@ -154,7 +153,7 @@ module _ (edge : ℕ → ℕ → Bool) where
         go : (left : ℕ → Bool) (xs : List ℕ) → Below n left → Steps left xs → length xs ≡ count-below n left
         go left [] low gone = sym (count-none left n gone)
         go left (x ∷ xs) low w =
-            ap suc (go (without left x) xs (low-without left x low) (w .1)) ∙ sym (one-fewer left x n (low x there) there)
+            ap suc (go (without left x) xs (low-without left x low) (w .1)) ∙ sym (count-without left x n (low x there) there)
           where
             there : left x ≡ true
             there = ready-left edge n left x (w .0)
@@ -167,7 +166,7 @@ module _ (edge : ℕ → ℕ → Bool) where
         go : (o : Option ℕ) → next n edge left ≡ o → ((u : ℕ) → rest n edge m (without left u) t ≡ true → without left u t ≡ true)
             → left t ≡ true
         go none e ih = sym (ap (λ (f : ℕ → Bool). f t) (rest-none n edge (suc m) left e)) ∙ h
-        go (some u) e ih = still-left left u t (ih u (sym (ap (λ (f : ℕ → Bool). f t) (rest-some n edge m left u e)) ∙ h))
+        go (some u) e ih = passed-before left u t (ih u (sym (ap (λ (f : ℕ → Bool). f t) (rest-some n edge m left u e)) ∙ h))
 
     -- at the end none can be placed: every place takes one, so as many places as there are members are enough
     none-ready : (left : ℕ → Bool) → count-below n left ≤ 0 → next n edge left ≡ none
@@ -183,7 +182,7 @@ module _ (edge : ℕ → ℕ → Bool) where
             → next n edge (rest n edge (suc m) left) ≡ none
         go none e v ih = ap (next n edge) (rest-none n edge (suc m) left e) ∙ e
         go (some u) e (first-some l r f) ih =
-            ap (next n edge) (rest-some n edge m left u e) ∙ ih u (omega (arith, c, one-fewer left u n l (ready-left edge n left u r)))
+            ap (next n edge) (rest-some n edge m left u e) ∙ ih u (omega (arith, c, count-without left u n l (ready-left edge n left u r)))
 
     -- where none is left, what the rule placed was made place by place,
     pub placed-steps : (m : ℕ) (left : ℕ → Bool) → ((t : ℕ) → rest n edge m left t ≡ false) → Steps left (placed n edge m left)

@@ -9,10 +9,10 @@ use mathlib.Core.Option.{none, some}
 use lib.ListN.{length, set}
 use lib.Seq.{sets}
 use Rattle.sets.specs.Bits.{numbers}
-use Rattle.sets.specs.Search.{count-below}
-use Rattle.sets.proofs.Counts.{count-low, count-some}
-use Rattle.sort.specs.Rule.{without, next, placed, rest}
-use Rattle.sort.proofs.Chosen.{one-fewer, next-is}
+use Rattle.sets.specs.Search.{count-below, without}
+use Rattle.sets.proofs.Counts.{count-low, count-some, count-without}
+use Rattle.sort.specs.Rule.{next, placed, rest}
+use Rattle.sort.proofs.Chosen.{next-is}
 use Rattle.sort.proofs.Clauses.{placed-none, placed-some, rest-none, rest-some}
 
 module _ (edge : ℕ → ℕ → Bool) (all : ℕ → Bool) (blank : List ℕ) where
@@ -42,7 +42,7 @@ module _ (edge : ℕ → ℕ → Bool) (all : ℕ → Bool) (blank : List ℕ) w
         placed-one =
             let r = next-is edge numbers left t e in
             record {
-              enough = omega (arith, w .enough, one-fewer left t numbers (r .0) (r .1));
+              enough = omega (arith, w .enough, count-without left t numbers (r .0) (r .1));
               same-rest = sym (rest-some numbers edge more left t e) ∙ w .same-rest;
               same-line =
                   ap (λ (k : ℕ). sets (set line count t) k (placed numbers edge more (without left t))) (add-one count)

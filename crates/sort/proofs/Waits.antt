@@ -10,13 +10,14 @@ use mathlib.Core.Option.{none, some}
 use lib.ListN.{length, getD, set, length-set}
 use lib.Seq.{getD-set-same, getD-set-other}
 use Rattle.sets.specs.Bits.{numbers}
-use Rattle.sets.specs.Search.{first-from}
+use Rattle.sets.specs.Search.{first-from, without}
 use Rattle.sets.proofs.Truth.{clash, refuted}
 use Rattle.sets.proofs.From.{FirstFrom, first-from-view}
-use Rattle.sort.specs.Rule.{predecessor, without, ready, next, lowest-predecessor}
+use Rattle.sets.proofs.Counts.{is-another, passed-before}
+use Rattle.sort.specs.Rule.{predecessor, ready, next, lowest-predecessor}
 use Rattle.sort.specs.Kept.{Kept, Searched}
 use Rattle.sort.proofs.Chosen.{is-ready, not-ready-out, not-ready-waits, next-hit, none-next, lowest-hit, lowest-is}
-use Rattle.sort.proofs.Chosen.{is-predecessor, not-predecessor, no-edge-none, still-left, not-placed, predecessor-left}
+use Rattle.sort.proofs.Chosen.{is-predecessor, not-predecessor, no-edge-none, predecessor-left}
 use Rattle.sort.proofs.Chosen.{predecessor-other}
 use Rattle.sort.proofs.Chosen.{predecessor-edge}
 
@@ -54,7 +55,7 @@ module _ (edge : ℕ → ℕ → Bool) (left : ℕ → Bool) where
       → lowest-predecessor numbers edge left t ≡ some s
   lowest-found t s f l h e =
       lowest-hit edge numbers left t s l f
-      (is-predecessor edge left t s (still-left left t s h) (λ (q : s ≡ t). not-placed left t s h (sym q)) e)
+      (is-predecessor edge left t s (passed-before left t s h) (λ (q : s ≡ t). is-another left t s h (sym q)) e)
 
   -- one that has a lowest predecessor is not ready
   waits-not-ready : (t s : ℕ) → lowest-predecessor numbers edge left t ≡ some s → ready numbers edge left t ≡ false

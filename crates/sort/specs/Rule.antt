@@ -6,15 +6,11 @@ use mathlib.Core.List.{List, [], _∷_, _++_}
 use mathlib.Core.Option.{Option, Option·elim}
 use lib.Dec.{eqb}
 use lib.ListN.{length, take, drop}
-use Rattle.sets.specs.Search.{some-below, first-below}
+use Rattle.sets.specs.Search.{some-below, first-below, without}
 
 -- s is a predecessor of t among those left: it is left, it is not t, and there is an edge from s to t
 unfoldable pub predecessor : (ℕ → ℕ → Bool) → (ℕ → Bool) → ℕ → ℕ → Bool
 predecessor edge left t s = left s && (not (eqb s t) && edge s t)
-
--- those left when t is placed
-unfoldable pub without : (ℕ → Bool) → ℕ → ℕ → Bool
-without left t s = left s && not (eqb t s)
 
 -- x is in the list
 unfoldable pub among : List ℕ → ℕ → Bool
@@ -67,7 +63,8 @@ module _ (n : ℕ) (edge : ℕ → ℕ → Bool) where
   unfoldable pub next : (ℕ → Bool) → Option ℕ
   next left = first-below n (ready left)
 
-  -- "Place transactions by the same rule until none can be placed": those placed, in their order, at most m of them,
+  -- "Place transactions by the same rule until none can be placed": those placed, in their order, at most m of them. When t is placed, the
+  -- others are left,
   unfoldable pub placed : ℕ → (ℕ → Bool) → List ℕ
   placed zero left = []
   placed (suc m) left = Option·elim (next left) [] (λ t. t ∷ placed m (without left t))

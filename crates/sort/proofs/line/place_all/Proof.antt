@@ -9,10 +9,11 @@ use mathlib.Core.Option.{none, some}
 use Prim.Native.Nat.{ℕ, suc, _+_, _-_, _<_, _≤_}
 use denote.Ref.{now}
 use Rattle.sets.specs.Bits.{numbers, has, in-row}
+use Rattle.sets.proofs.Counts.{passed-before}
 use Rattle.sort.specs.Rule.{next}
 use Rattle.sort.specs.Kept.{Kept, Searched}
 use Rattle.sort.specs.Numbers.{ready-says}
-use Rattle.sort.proofs.Chosen.{next-is, still-left, taken}
+use Rattle.sort.proofs.Chosen.{next-is, taken}
 use Rattle.sort.proofs.Waits.{searched-fewer}
 use Rattle.sort.proofs.Runs.{ToPlace, place-start, place-room, place-one, done-count, done-line, done-rest}
 use Rattle.sort.proofs.line.place_all.Statement.{statement}
@@ -125,7 +126,7 @@ loop-again c =
           (subst (ToPlace (edge e) (set e) (blank e) (line e) (has (left e)) (count e)) one-more (l .inv .1)) (is-next f) fewer,
       e .lowest-ready .ensures .1 .0,
       searched-fewer (edge e) (has (left e)) (has (c .without-member .result)) (e .lowest-ready .last .1 .1 .0)
-          (λ u h. still-left (has (left e)) (t f) u (ap (λ (g : ℕ → Bool). g u) (sym fewer) ∙ h)) (e .lowest-ready .ensures .1 .1 .0),
+          (λ u h. passed-before (has (left e)) (t f) u (ap (λ (g : ℕ → Bool). g u) (sym fewer) ∙ h)) (e .lowest-ready .ensures .1 .1 .0),
     )
 
 pub place-all-spec : {M : Type 1} → statement M

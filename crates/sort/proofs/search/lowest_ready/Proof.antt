@@ -11,10 +11,9 @@ use Prim.Native.Nat.{ℕ, _+_, _-_, _<_, _≤_}
 use lib.ListN.{getD}
 use denote.Ref.{now}
 use Rattle.sets.specs.Bits.{numbers, has, in-row}
-use Rattle.sets.specs.Search.{first-from}
+use Rattle.sets.specs.Search.{first-from, without}
 use Rattle.sets.proofs.Members.{has-low}
 use Rattle.sets.proofs.From.{FirstFrom}
-use Rattle.sort.specs.Rule.{without}
 use Rattle.sort.specs.Kept.{Kept, Searched}
 use Rattle.sort.proofs.Chosen.{taken}
 use Rattle.sort.proofs.Waits.{found-from, Free, Tried, free-on, free-past, lowest-found, tried-on, ready-found, none-found}
