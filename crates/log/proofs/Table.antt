@@ -13,7 +13,7 @@ use Rattle.format.specs.Answer.{Answer, passed, row, gives, refused, _then_}
 use Rattle.format.specs.Record.{transactions, kind, transaction, item, site, records}
 use Rattle.format.specs.Form.{known-kind, form-answer}
 use Rattle.format.specs.Form.{form-at, in-range-at}
-use Rattle.format.proofs.Answers.{never-both, then-left, then-right, row-fails, said-number, said-place}
+use Rattle.format.proofs.Answers.{never-both, then-left, then-right, passed-then, row-fails, said-number, said-place}
 use Rattle.format.proofs.Ranges.{form-known, form-in-range}
 use Rattle.log.specs.Refusal.{too-long, ragged, after-commit, reads-unwritten, reads-past-own}
 use Rattle.log.specs.Refusal.{read-answer, history-answer, record-answer, records-answer, never-commits, first-record, refused-9}
@@ -66,13 +66,17 @@ module _ (log : List ℕ) where
       go none e q = first-none-below (never-commits log) transactions e t l
       go (some u) e q = absurd (never-both tt 9 (first-record log u) q)
 
-  lengths-pass : check-answer log ≡ passed → length-answer log ≡ passed
+  pub lengths-pass : check-answer log ≡ passed → length-answer log ≡ passed
   unfolding check-answer
   lengths-pass h = then-left (length-answer log) (content-answer log) h
 
-  content-passes : check-answer log ≡ passed → content-answer log ≡ passed
+  pub content-passes : check-answer log ≡ passed → content-answer log ≡ passed
   unfolding check-answer
   content-passes h = then-right (length-answer log) (content-answer log) h
+
+  pub both-pass : length-answer log ≡ passed → content-answer log ≡ passed → check-answer log ≡ passed
+  unfolding check-answer
+  both-pass v w = passed-then (length-answer log) (content-answer log) v ∙ w
 
   pub records-pass : check-answer log ≡ passed → records-answer log (records log) ≡ passed
   unfolding content-answer

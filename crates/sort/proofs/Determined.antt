@@ -1,22 +1,20 @@
 -- The promise of the sort determines its answer and the buffer that was lent; and what is promised means, of every table and every set,
 -- the smallest line or a cycle where there is none. Assumes nothing.
-use Prim.Native.Nat.{ℕ, _+_, _<_, _≤_, _^_}
+use Prim.Native.Nat.{ℕ, _+_, _<_, _^_}
 use native.Mathlib.Omega.{arith}
 use native.Mathlib.Nat.{zero-add}
-use mathlib.Core.Path.{_≡_, sym, _∙_, ap}
+use mathlib.Core.Path.{_≡_, refl, sym, _∙_, ap}
 use mathlib.Core.List.{List, _++_}
 use lib.ListN.{length, drop}
 use lib.Seq.{sets, sets-eq}
 use Rattle.sets.specs.Bits.{numbers, has, in-row}
 use Rattle.sets.proofs.Members.{has-low}
-use Rattle.sets.proofs.Counts.{count-low}
 use Rattle.sort.specs.Rule.{LineOrCycle, line, cycle, sorted, members-of, length-of}
 use Rattle.sort.specs.Lines.{Below, Means}
 use Rattle.sort.specs.Numbers.{sorted-says}
 use Rattle.sort.specs.declared.Sorted.{Sorted}
 use Rattle.sort.specs.declared.Sorted.the-variants.{Line, Cycle}
-use Rattle.sort.proofs.Placing.{line-length}
-use Rattle.sort.proofs.Sorts.{sorted-means}
+use Rattle.sort.proofs.Sorts.{sorted-means, means-fit}
 
 -- the number of a line or a cycle, and which of the two it is
 abbrev count-of : LineOrCycle ℕ → ℕ
@@ -35,6 +33,15 @@ same-sorted (Line m) (Line n) e = ap Line (ap count-of e)
 same-sorted (Line m) (Cycle n) e = absurd (differ (line m) (cycle n) (λ z. omega (arith, z)) e)
 same-sorted (Cycle m) (Line n) e = absurd (differ (cycle m) (line n) (λ z. omega (arith, z)) e)
 same-sorted (Cycle m) (Cycle n) e = ap Cycle (ap count-of e)
+
+-- what has the length of a line is one, and so for a cycle
+pub line-of : (n : ℕ) (o : LineOrCycle (List ℕ)) → line n ≡ length-of o → (o ≡ line (members-of o)) × (n ≡ length (members-of o))
+line-of n (line xs) e = (refl, ap count-of e)
+line-of n (cycle xs) e = absurd (differ (line n) (cycle (length xs)) (λ z. omega (arith, z)) e)
+
+pub cycle-of : (n : ℕ) (o : LineOrCycle (List ℕ)) → cycle n ≡ length-of o → (o ≡ cycle (members-of o)) × (n ≡ length (members-of o))
+cycle-of n (line xs) e = absurd (differ (cycle n) (line (length xs)) (λ z. omega (arith, z)) e)
+cycle-of n (cycle xs) e = (refl, ap count-of e)
 
 -- The premises below are the promises of src/lib.rt, word for word.
 -- THEOREM: any two answers that `sort` promises for a table, a set and a buffer are equal, and so are the buffers left
@@ -55,14 +62,10 @@ module _ (table : List ℕ) (set : ℕ) (fits : set < 2 ^ numbers) where
   pub sort-means : Means numbers (in-row table) (has set) (sorted numbers (in-row table) (has set))
   sort-means = sorted-means numbers (in-row table) (has set) low
 
-  members-fit : (o : LineOrCycle (List ℕ)) → Means numbers (in-row table) (has set) o → length (members-of o) ≤ numbers
-  members-fit (line xs) w = omega (arith, line-length (in-row table) numbers (has set) xs low (w .is-line), count-low (has set) numbers)
-  members-fit (cycle xs) w = w .2
-
   -- THEOREM: it fits the buffer, so that the members stand in its front, and behind them is what was there
   pub sort-written : (old : List ℕ) → length old ≡ numbers
       → let xs = members-of (sorted numbers (in-row table) (has set)) in sets old 0 xs ≡ xs ++ drop (length xs) old
   sort-written old w =
       let xs = members-of (sorted numbers (in-row table) (has set)) in
-      sets-eq xs old 0 (omega (arith, w, members-fit (sorted numbers (in-row table) (has set)) sort-means))
+      sets-eq xs old 0 (omega (arith, w, means-fit numbers (in-row table) (has set) low (sorted numbers (in-row table) (has set)) sort-means))
       ∙ ap (λ (k : ℕ). xs ++ drop k old) (zero-add (length xs))

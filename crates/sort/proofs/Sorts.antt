@@ -7,18 +7,18 @@ use mathlib.Core.Bool.{Bool, true, false}
 use mathlib.Core.Logic.{_⊎_, ⊎-elim, _↔_}
 use mathlib.Core.List.{List, [], _∷_, _++_}
 use mathlib.Core.Option.{Option, none, some}
-use lib.ListN.{take}
+use lib.ListN.{length, take}
 use Rattle.sets.specs.Search.{first-below, count-below}
 use Rattle.sets.specs.Paths.{Acyclic}
 use Rattle.sets.proofs.Truth.{clash, refuted}
 use Rattle.sets.proofs.Searches.{None, First, first-none, first-some, first-view}
 use Rattle.sets.proofs.Counts.{count-low}
-use Rattle.sort.specs.Rule.{among, next, placed, rest, lowest-predecessor, walk, to-lowest, sorted, LineOrCycle, line, cycle}
+use Rattle.sort.specs.Rule.{among, next, placed, rest, lowest-predecessor, walk, to-lowest, sorted, LineOrCycle, line, cycle, members-of}
 use Rattle.sort.specs.Lines.{edge-within, Below, Line, SmallestLine, Cycle, FromLowest, Stuck, Means}
 use Rattle.sort.proofs.Lists.{among-nil, among-cases, pigeonhole}
 use Rattle.sort.proofs.Chosen.{next-none, within-more, waiting}
 use Rattle.sort.proofs.Clauses.{sorted-line, sorted-cycle}
-use Rattle.sort.proofs.Placing.{steps-line, line-steps, line-acyclic, no-line, rest-within, rest-ends, placed-steps, placed-smallest}
+use Rattle.sort.proofs.Placing.{steps-line, line-steps, line-acyclic, line-length, no-line, rest-within, rest-ends, placed-steps, placed-smallest}
 use Rattle.sort.proofs.Rings.{cycle-precedes, linked-more, from-lowest, to-lowest-cycle, walk-cycle}
 
 -- a cycle among those left is one of the set
@@ -108,6 +108,15 @@ module _ (n : ℕ) (edge : ℕ → ℕ → Bool) where
         go : (o : Option ℕ) → First left-over n o → Means n edge set (sorted n edge set)
         go none (first-none f) = subst (Means n edge set) (sym (sorted-line n edge set f)) (all-placed f)
         go (some t) (first-some l h f) = subst (Means n edge set) (sym (sorted-cycle n edge set t l f h)) (cycle-means t h)
+
+    -- either has at most n members, all of them in the set
+    pub means-fit : (o : LineOrCycle (List ℕ)) → Means n edge set o → length (members-of o) ≤ n
+    means-fit (line xs) w = omega (arith, line-length edge n set xs low (w .is-line), count-low set n)
+    means-fit (cycle xs) w = w .2
+
+    pub means-within : (o : LineOrCycle (List ℕ)) → Means n edge set o → (t : ℕ) → among (members-of o) t ≡ true → set t ≡ true
+    means-within (line xs) w t a = sym (w .is-line .all-and-only t) ∙ a
+    means-within (cycle xs) w t a = w .0 .members t a
 
     -- THEOREM: a line that keeps every edge exists exactly where the rule gives one ..
     pub line-where-given : ((xs : List ℕ) × Line edge set xs) ↔ ((xs : List ℕ) × (sorted n edge set ≡ line xs))

@@ -1,0 +1,80 @@
+-- Laws of answer records: how they are written one by one, and that they are known by what stands at each place. Assumes nothing.
+use Prim.Native.Nat.{ℕ, zero, suc, _+_, _*_, _<_, _≤_}
+use native.Mathlib.Omega.{arith}
+use native.Mathlib.Decide.{ℕ-discrete, decLt}
+use native.Mathlib.Numerals.{add-one}
+use mathlib.Core.Path.{_≡_, refl, sym, _∙_, ap, ap₂}
+use mathlib.Core.List.{List, [], _∷_, _++_}
+use lib.Dec.{ltb}
+use lib.ListN.{length, set, length-set, length-append}
+use lib.Seq.{sets, getD-set-same, getD-set-other}
+use borrow.Author.Tests.{lt-ltb, le-ltb}
+use Rattle.sort.proofs.Parts.{sets-append}
+use Rattle.edges.specs.Reasons.{reason}
+use Rattle.format.specs.Record.{transactions}
+use Rattle.verdict.specs.Kept.{Along}
+use Rattle.verdict.specs.Verdict.{record-size, entry, pairs, round-to, line-records, cycle-records}
+
+pub length-pairs : (n : ℕ) (f g : ℕ → ℕ) → length (pairs n f g) ≡ n * record-size
+unfolding pairs
+length-pairs zero f g = refl
+length-pairs (suc n) f g = length-append (pairs n f g) (f n ∷ g n ∷ []) ∙ omega (arith, length-pairs n f g)
+
+-- none is written yet, and one more
+pub pairs-none : (old : List ℕ) (f g : ℕ → ℕ) → old ≡ sets old 0 (pairs 0 f g)
+unfolding pairs
+pairs-none old f g = refl
+
+pub pairs-more : (old : List ℕ) (f g : ℕ → ℕ) (k : ℕ)
+    → set (set (sets old 0 (pairs k f g)) (k * record-size) (f k)) (k * record-size + 1) (g k) ≡ sets old 0 (pairs (k + 1) f g)
+unfolding pairs
+pairs-more old f g k =
+    let before = sets old 0 (pairs k f g) in
+    let at : 0 + length (pairs k f g) ≡ k * record-size = omega (arith, length-pairs k f g) in
+    ap (λ (e : ℕ). set (set before (k * record-size) (f k)) e (g k)) (add-one (k * record-size))
+    ∙ sym (ap (λ (e : ℕ). sets before e (f k ∷ g k ∷ [])) at)
+    ∙ sym (sets-append (pairs k f g) (f k ∷ g k ∷ []) old 0)
+    ∙ ap (λ (e : ℕ). sets old 0 (pairs e f g)) (sym (add-one k))
+
+-- records with the same bytes at every place
+pub pairs-same : (n : ℕ) (f g p q : ℕ → ℕ) → ((k : ℕ) → k < n → f k ≡ p k) → ((k : ℕ) → k < n → g k ≡ q k) → pairs n f g ≡ pairs n p q
+unfolding pairs
+pairs-same zero f g p q v w = refl
+pairs-same (suc n) f g p q v w =
+    ap₂ _++_ (pairs-same n f g p q (λ k l. v k (omega (arith, l))) (λ k l. w k (omega (arith, l))))
+    (ap₂ (λ (a b : ℕ). a ∷ b ∷ []) (v n (omega arith)) (w n (omega arith)))
+
+-- the next place round a cycle, which is one of its places
+pub round-next : (n k : ℕ) → k + 1 < n → round-to n k ≡ k + 1
+unfolding round-to
+round-next n k l = rw (lt-ltb (suc k) n (omega (arith, l))) (sym (add-one k))
+
+pub round-back : (n k : ℕ) → n ≤ k + 1 → round-to n k ≡ 0
+unfolding round-to
+round-back n k l = rw (le-ltb (suc k) n (omega (arith, l))) refl
+
+pub round-low : (n k : ℕ) → k < n → round-to n k < n
+round-low n k l = go (decLt (k + 1) n)
+  where
+    go : Dec (k + 1 < n) → round-to n k < n
+    go (yes m) = rw (round-next n k m) m
+    go (no m) = rw (round-back n k (omega (arith, m))) (omega (arith, l))
+
+-- the records of a line and of a cycle, by what stands at each place
+pub line-records-are : (xs : List ℕ) → line-records xs ≡ pairs (length xs) (entry xs) (λ k. 0)
+unfolding line-records
+line-records-are xs = refl
+
+pub cycle-records-are : (log xs : List ℕ)
+    → cycle-records log xs ≡ pairs (length xs) (entry xs) (λ k. reason log (entry xs k) (entry xs (round-to (length xs) k)))
+unfolding cycle-records
+cycle-records-are log xs = refl
+
+-- one more reason is kept
+pub along-more : (lowest : ℕ → ℕ → ℕ) (xs reasons : List ℕ) (n k value : ℕ) → k < transactions → Along lowest xs n k reasons
+    → value ≡ lowest (entry xs k) (entry xs (round-to n k)) → Along lowest xs n (k + 1) (set reasons k value)
+along-more lowest xs reasons n k value l w e = record { whole = length-set reasons k value ∙ w .whole; said = λ j m. go j m (ℕ-discrete j k) }
+  where
+    go : (j : ℕ) → j < k + 1 → Dec (j ≡ k) → entry (set reasons k value) j ≡ lowest (entry xs j) (entry xs (round-to n j))
+    go j m (yes q) = rw q (getD-set-same reasons k value 0 (rw (w .whole) l) ∙ e)
+    go j m (no q) = getD-set-other reasons k j value 0 q ∙ w .said j (omega (arith, m, q))
