@@ -2,7 +2,8 @@
  *
  * Every log of any length and content, and every table of edges with every set, gets an answer. Nothing is allocated, and nothing is kept
  * between calls. Nothing is asked of a caller but that the pointers are good: log points at len readable bytes, and is not null, also where
- * len is 0; table points at 64 readable numbers and members at 64 writable bytes, which do not overlap. */
+ * len is 0; answer points at room writable bytes, and is not null, also where room is 0; table points at 64 readable numbers and members at
+ * 64 writable bytes. What is written to overlaps nothing else. */
 #ifndef FRUSCALENTA_H
 #define FRUSCALENTA_H
 
@@ -12,6 +13,24 @@
 #ifdef __cplusplus
 extern "C" {
 #endif
+
+/* A verdict in numbers. Where number is 0 nothing was refused: cycle is 0 for a serial line and 1 for a cycle, and length is how many
+ * transactions it has. Else number and place are those of document 01's table of refusals, places counted in records from 0, and cycle and
+ * length are 0. */
+struct fruscalenta_judged {
+    uint64_t number;
+    uint64_t place;
+    uint64_t cycle;
+    uint64_t length;
+};
+
+/* The room for answer records that every log's answer fits into, in bytes; less is refused with number 3. */
+#define FRUSCALENTA_ROOM 128
+
+/* The verdict on a log: numbers 1 to 9, or a serial line or a cycle. Its answer records, 2 bytes each, are written to the first 2 x length
+ * bytes of answer: for a line the transaction and 0; for a cycle the transaction and the lowest reason (1 conflict, 2 write order, 3 read
+ * before) of its edge to the next, the last one's to the first. All other bytes keep their content, and after a refusal all do. */
+struct fruscalenta_judged fruscalenta_verdict(const uint8_t *log, size_t len, uint8_t *answer, size_t room);
 
 /* An answer in numbers. Where number is 0 nothing was refused, and value is what was asked for. Else number and place are those
  * of document 01's table of refusals, places counted in records from 0, and value is 0. */

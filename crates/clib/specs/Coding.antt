@@ -1,5 +1,5 @@
--- How document 01's answers stand in the numbers of the C face: the refusal's number and place, or number 0 and then the value; and a
--- line or a cycle.
+-- How document 01's answers stand in the numbers of the C face: the refusal's number and place, or number 0 and then the value; a line or
+-- a cycle; and a verdict.
 use Prim.Native.Nat.{ℕ}
 use mathlib.Core.Option.{Option, none, some}
 use Rattle.format.specs.Answer.{Answer, gives, refused}
@@ -7,6 +7,7 @@ use Rattle.format.specs.Record.{transactions}
 use Rattle.sort.specs.Rule.{LineOrCycle, line, cycle}
 use Rattle.clib.specs.declared.Coded.{Coded}
 use Rattle.clib.specs.declared.CodedSorted.{CodedSorted}
+use Rattle.clib.specs.declared.CodedVerdict.{CodedVerdict}
 
 abbrev pub coded-refusal : ℕ → ℕ → Coded
 coded-refusal n p = record { number = n; place = p; value = 0 }
@@ -33,3 +34,9 @@ reason-value n = n
 abbrev pub coded-sorted : LineOrCycle ℕ → CodedSorted
 coded-sorted (line n) = record { cycle = 0; length = n }
 coded-sorted (cycle n) = record { cycle = 1; length = n }
+
+-- a verdict has the refusal's number and place, or else those of the line or the cycle
+abbrev pub coded-verdict : Answer (LineOrCycle ℕ) → CodedVerdict
+coded-verdict (gives (line n)) = record { number = 0; place = 0; cycle = 0; length = n }
+coded-verdict (gives (cycle n)) = record { number = 0; place = 0; cycle = 1; length = n }
+coded-verdict (refused n p) = record { number = n; place = p; cycle = 0; length = 0 }

@@ -1,6 +1,7 @@
 // The C face of the checker: exports on byte slices, tables and plain numbers, thin over the crates below. include/fruscalenta.h declares
 // them.
 ghost use mathlib.Core.Path.{_≡_};
+ghost use lib.ListN.{length};
 ghost use lib.Seq.{sets};
 ghost use Rattle.sets.specs.Bits.{numbers, has, in-row};
 ghost use Rattle.format.specs.Numbers.{number-of, place-of};
@@ -8,18 +9,21 @@ ghost use Rattle.log.specs.Refusal.{check-answer};
 ghost use Rattle.log.specs.Source.{source-answer};
 ghost use Rattle.edges.specs.Reasons.{edge-answer};
 ghost use Rattle.sort.specs.Rule.{sorted, members-of, length-of};
-ghost use Rattle.clib.specs.Coding.{coded, coded-refusal, passed-value, source-value, reason-value, coded-sorted};
+ghost use Rattle.verdict.specs.Verdict.{verdict-answer, answer-records, how-many};
+ghost use Rattle.clib.specs.Coding.{coded, coded-refusal, passed-value, source-value, reason-value, coded-sorted, coded-verdict};
 use edges::graph::Edge;
-use edges::graph::edge_between;
 use format::record::TRANSACTIONS;
 use format::refusal::Checked;
 use format::refusal::Refusal;
 use log::check::check;
 use log::source::Source;
-use log::source::source_of_record;
 use sets::NUMBERS;
 use sort::Sorted;
 use sort::sort;
+use verdict::answer::Verdict;
+use verdict::edge_between;
+use verdict::source_of_record;
+use verdict::verdict;
 
 // An answer in numbers: the refusal's number and place, or number 0 and then the value. `struct fruscalenta_answer` of the header.
 #[repr(C)]
@@ -32,6 +36,16 @@ pub struct Coded {
 // A line or a cycle in numbers: whether it is a cycle, 1 or 0, and how many members it has. `struct fruscalenta_sorted` of the header.
 #[repr(C)]
 pub struct CodedSorted {
+    pub cycle: u64,
+    pub length: u64,
+}
+
+// A verdict in numbers: the refusal's number and place, or number 0 and then whether it is a cycle, 1 or 0, and how many members it has.
+// `struct fruscalenta_judged` of the header.
+#[repr(C)]
+pub struct CodedVerdict {
+    pub number: u64,
+    pub place: u64,
     pub cycle: u64,
     pub length: u64,
 }
@@ -118,6 +132,34 @@ pub extern "C" fn fruscalenta_sort(
         Sorted::Cycle(n) => CodedSorted {
             cycle: 1,
             length: n as u64,
+        },
+    }
+}
+
+// The verdict on a log. The answer records of a line or a cycle are written to the front of the buffer; all other bytes keep their content.
+#[no_mangle]
+pub extern "C" fn fruscalenta_verdict(log: &[u8], answer: &mut [u8]) -> CodedVerdict
+    ensures { λ a. ⌜ a ≡ coded-verdict (how-many (verdict-answer (now (log .entry)) (length (now (answer .entry))))) ⌝ }
+    ensures { λ a. ⌜ now (answer .exit) ≡ sets (now (answer .entry)) 0 (answer-records (now (log .entry)) (verdict-answer (now (log .entry)) (length (now (answer .entry))))) ⌝ }
+{
+    match verdict(log, answer) {
+        Verdict::Line(n) => CodedVerdict {
+            number: 0,
+            place: 0,
+            cycle: 0,
+            length: n as u64,
+        },
+        Verdict::Cycle(n) => CodedVerdict {
+            number: 0,
+            place: 0,
+            cycle: 1,
+            length: n as u64,
+        },
+        Verdict::Refused(r) => CodedVerdict {
+            number: r.number(),
+            place: r.place() as u64,
+            cycle: 0,
+            length: 0,
         },
     }
 }
