@@ -20,12 +20,13 @@ use Rattle.log.specs.Source.{source-record, source}
 use Rattle.log.proofs.Sources.{Sourced, sourced, source-of, source-record-of}
 use Rattle.log.proofs.Passed.{by-own, by-same, same-copy, writes-copy-found, wrote-copy-found, passed-within, passed-source, passed-own}
 use Rattle.edges.specs.Order.{writes, comes-before, writer-after}
-use Rattle.edges.specs.Reasons.{uses-copy, conflicting, gives-conflict, gives-write-order, gives-read-before, conflict}
+use Rattle.edges.specs.Reasons.{uses-copy, gives-write-order, gives-read-before, conflict}
 use Rattle.edges.specs.Reasons.{write-order, read-before, edge}
 use Rattle.edges.specs.Chapter.{serialization-edge, ReadsFrom, InducesWriteOrder, InducesReadOrder, RDSG}
-use Rattle.edges.proofs.Records.{of-hit, after-hit}
+use Rattle.edges.proofs.Records.{of-hit}
 use Rattle.edges.proofs.Orders.{writes-found, writes-hit, writer-after-hit, one-comes-first}
 use Rattle.edges.proofs.Given.{write-gives, sourced-gives}
+use Rattle.edges.proofs.Found.{conflict-hit}
 use Rattle.edges.proofs.Graphs.{edge-in-log}
 use Rattle.edges.proofs.Conflicts.{use-of-read, use-of-write, conflicts-with-write}
 
@@ -66,7 +67,7 @@ module _ (log : List ℕ) where
       read-before-edge j k (λ q. f (sym q)) (of-hit log j (λ g. gives-read-before log g k) e (r .there) (r .its-own) (sourced-gives log e k i (r .from) ∙ at-record))
 
   -- so it has every edge of SG
-  extends-SG : (i j : ℕ) → serialization-edge log i j ≡ true → edge log i j ≡ true
+  pub extends-SG : (i j : ℕ) → serialization-edge log i j ≡ true → edge log i j ≡ true
   unfolding serialization-edge
   extends-SG i j h =
       conflict-edge i j (eqb-false i j (not-true (eqb i j) (and-left (not (eqb i j)) (conflict log i j) h))) (and-right (not (eqb i j)) (conflict log i j) h)
@@ -74,11 +75,9 @@ module _ (log : List ℕ) where
   -- a write before a use of its copy by another is an edge of SG
   write-then-use : (e f : ℕ) → e < f → f < records log → (transaction log e ≡ transaction log f → ⊥) → is-write log e ≡ true
       → uses-copy log f (copy-of log e) ≡ true → serialization-edge log (transaction log e) (transaction log f) ≡ true
-  unfolding serialization-edge conflict gives-conflict
+  unfolding serialization-edge
   write-then-use e f l m d w u =
-      rw (ne-eqb (transaction log e) (transaction log f) d)
-      (of-hit log (transaction log e) (λ g. gives-conflict log g (transaction log f)) e (omega arith) (by-own log e)
-      (after-hit log e (transaction log f) (conflicting log e) f l m (by-own log f) (conflicts-with-write log e w f ∙ u)))
+      rw (ne-eqb (transaction log e) (transaction log f) d) (conflict-hit log e f l m (conflicts-with-write log e w f ∙ u))
 
   -- another's write, between an own write of a copy and a read of it, would come after the own one and before it
   between : Acyclic (serialization-edge log) → (e f k : ℕ) → k < records log → is-read log k ≡ true → e < f → f < k
@@ -94,7 +93,7 @@ module _ (log : List ℕ) where
 
 module _ (log : List ℕ) (sound : check-answer log ≡ passed) where
   -- the source of a read writes the item that is read
-  source-writes : (x j i e : ℕ) → ReadsFrom log x j i e → writes log i x ≡ true
+  pub source-writes : (x j i e : ℕ) → ReadsFrom log x j i e → writes log i x ≡ true
   source-writes x j i e r =
       let found = source-record-of log e i (r .from) in
       let f = found .0 in

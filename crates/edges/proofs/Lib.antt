@@ -5,6 +5,7 @@ pub mod Whole
 pub mod KeptOrders
 pub mod Conflicts
 pub mod Given
+pub mod Found
 pub mod Graphs
 pub mod Questions
 pub mod Chapter

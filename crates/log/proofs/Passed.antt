@@ -87,6 +87,11 @@ module _ (log : List ℕ) where
   unfolding copy-of copy-number
   same-copy j k v w e = (omega (arith, v .site-within, w .site-within), omega (arith, v .site-within, w .site-within))
 
+  -- and a record on the copy of the item x at a site is of x
+  pub copy-item : (e x s : ℕ) → Within log e → s < sites → copy-of log e ≡ copy-number x s → item log e ≡ x
+  unfolding copy-of copy-number
+  copy-item e x s w l h = omega (arith, w .site-within)
+
 -- record c is the commit of transaction t, after all its other records
 pub record CommitOf (log : List ℕ) (t c : ℕ) : Type 0 where
   pub there : c < records log

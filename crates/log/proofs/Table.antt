@@ -8,6 +8,7 @@ use mathlib.Core.Bool.{true, false, Bool, not}
 use mathlib.Core.Option.{Option, none, some}
 use mathlib.Core.Logic.{_↔_}
 use Rattle.sets.specs.Search.{first-below}
+use Rattle.sets.proofs.Truth.{clash}
 use Rattle.sets.proofs.Searches.{first-none-below, First, first-some, first-view, first-hit}
 use Rattle.format.specs.Answer.{Answer, passed, row, gives, refused, _then_}
 use Rattle.format.specs.Record.{transactions, kind, transaction, item, site, records}
@@ -86,15 +87,19 @@ module _ (log : List ℕ) where
   unfolding content-answer
   end-passes h = then-right (records-answer log (records log)) (end-answer log) (content-passes h)
 
-  not-1 : length-answer log ≡ passed → too-long log ≡ false
+  pub not-1 : length-answer log ≡ passed → too-long log ≡ false
   unfolding length-answer
   not-1 h = row-fails 1 (too-long log) 0 (then-left (row 1 (too-long log) 0) (row 2 (ragged log) 0) h)
 
-  not-2 : length-answer log ≡ passed → ragged log ≡ false
+  pub not-2 : length-answer log ≡ passed → ragged log ≡ false
   unfolding length-answer
   not-2 h = row-fails 2 (ragged log) 0 (then-right (row 1 (too-long log) 0) (row 2 (ragged log) 0) h)
 
   -- and back
+  pub lengths-back : too-long log ≡ false → ragged log ≡ false → length-answer log ≡ passed
+  unfolding length-answer
+  lengths-back a b = rw (a, b) refl
+
   record-back : NothingApplies → (k : ℕ) → k < records log → record-answer log k ≡ passed
   unfolding record-answer form-answer history-answer read-answer
   record-back w k l = rw (w .no-4 k l, w .no-5 k l, w .no-6 k l, w .no-7 k l, w .no-8 k l) refl
@@ -154,6 +159,13 @@ module _ (log : List ℕ) where
   record-given k n (is-6 a b c) = rw (a, b, c) refl
   record-given k n (is-7 a b c d) = rw (a, b, c, d) refl
   record-given k n (is-8 a b c d e) = rw (a, b, c, d, e) refl
+
+  -- all records pass, and then number 9 is given
+  ends-refused : (t : ℕ) → records-answer log (records log) ≡ passed
+      → refused-9 log (first-below transactions (never-commits log)) ≡ refused 9 (first-record log t)
+      → content-answer log ≡ refused 9 (first-record log t)
+  unfolding content-answer end-answer
+  ends-refused t h e = rw h e
 
   check-given : (n p : ℕ) → Given n p → check-answer log ≡ refused n p
   unfolding check-answer length-answer content-answer end-answer
@@ -228,3 +240,48 @@ module _ (log : List ℕ) where
   -- THEOREM: a number with its place is given exactly when the table says
   pub given-exactly : (n p : ℕ) → check-answer log ≡ refused n p ↔ Given n p
   given-exactly n p = (row-of n p, check-given n p)
+
+  -- Number 3 has its place between two parts of the table: 1 and 2, which are the length's, and 4 to 9, the content's.
+  at-record-high : (k n : ℕ) → AtRecord k n → 3 < n
+  at-record-high k n (is-4 a) = omega arith
+  at-record-high k n (is-5 a b) = omega arith
+  at-record-high k n (is-6 a b c) = omega arith
+  at-record-high k n (is-7 a b c d) = omega arith
+  at-record-high k n (is-8 a b c d e) = omega arith
+
+  pub length-given : (n p : ℕ) → length-answer log ≡ refused n p → (n < 3) × Given n p
+  unfolding length-answer
+  length-given n p e = go (too-long log) refl (ragged log) refl e
+    where
+      to : (m : ℕ) → m < 3 → _≡_ {A = Answer (Unit {0})} (refused m 0) (refused n p) → Given m 0 → (n < 3) × Given n p
+      to m l q g = (subst (λ (i : ℕ). i < 3) (ap said-number q) l, same-row m 0 n p q g)
+
+      go : (a : Bool) → too-long log ≡ a → (b : Bool) → ragged log ≡ b → (row 1 a 0 then row 2 b 0) ≡ refused n p → (n < 3) × Given n p
+      go true x b y q = to 1 (omega arith) q (given-1 x)
+      go false x true y q = to 2 (omega arith) q (given-2 x y)
+      go false x false y q = absurd (never-both tt n p (sym q))
+
+  pub content-given : (n p : ℕ) → length-answer log ≡ passed → content-answer log ≡ refused n p → (3 < n) × Given n p
+  content-given n p h e = let g = in-content n p (not-1 h) (not-2 h) e in (high n p g, g)
+    where
+      high : (n p : ℕ) → Given n p → 3 < n
+      high n p (given-1 a) = absurd (clash (too-long log) a (not-1 h))
+      high n p (given-2 a b) = absurd (clash (ragged log) b (not-2 h))
+      high n p (given-at-record {n = i} {k = k} a b l q w) = at-record-high k i w
+      high n p (given-9 a b q l u w) = omega arith
+
+  pub given-length : (n p : ℕ) → n < 3 → Given n p → length-answer log ≡ refused n p
+  unfolding length-answer
+  given-length n p m (given-1 a) = rw a refl
+  given-length n p m (given-2 a b) = rw (a, b) refl
+  given-length n p m (given-at-record {n = i} {k = k} a b l q w) = absurd (omega (arith, m, at-record-high k i w))
+  given-length n p m (given-9 a b q l u w) = absurd (omega (arith, m))
+
+  pub given-content : (n p : ℕ) → 3 < n → Given n p → (length-answer log ≡ passed) × (content-answer log ≡ refused n p)
+  given-content n p m (given-1 a) = absurd (omega (arith, m))
+  given-content n p m (given-2 a b) = absurd (omega (arith, m))
+  given-content n p m (given-at-record {n = i} {k = k} a b l q w) = (lengths-back a b, content-refused log k l q (record-given k i w))
+  given-content n p m (given-9 {t = t} a b q l u w) = (lengths-back a b, at-the-end)
+    where
+      at-the-end : content-answer log ≡ refused 9 (first-record log t)
+      at-the-end = ends-refused t q (ap (refused-9 log) (first-hit (never-commits log) transactions t l u w))

@@ -1,14 +1,14 @@
 -- The order of the verdict's refusals, case by case, and what follows from each. The only file that opens `verdict-check` and
 -- `verdict-answer`. Assumes nothing.
 use Prim.Native.Nat.{ℕ, _<_, _≤_}
-use mathlib.Core.Path.{_≡_, refl, _∙_, sym}
+use mathlib.Core.Path.{_≡_, refl, _∙_, sym, ap, ap₂}
 use mathlib.Core.List.{List}
 use mathlib.Core.Bool.{Bool, true, false}
-use borrow.Author.Tests.{lt-ltb, le-ltb, ltb-false}
+use borrow.Author.Tests.{lt-ltb, le-ltb, ltb-true, ltb-false}
 use Rattle.format.specs.Answer.{Answer, gives, refused, passed, row, _then_}
-use Rattle.format.proofs.Answers.{then-left, then-right, row-fails, passed-then}
+use Rattle.format.proofs.Answers.{then-left, then-right, row-fails, passed-then, never-both, said-number, said-place}
 use Rattle.log.specs.Refusal.{length-answer, content-answer, check-answer}
-use Rattle.log.proofs.Table.{both-pass}
+use Rattle.log.proofs.Table.{both-pass, lengths-pass, content-passes}
 use Rattle.sort.specs.Rule.{LineOrCycle}
 use Rattle.verdict.specs.Verdict.{most-answer, short-buffer, verdict-check, line-or-cycle, verdict-answer}
 
@@ -20,6 +20,10 @@ short room l = lt-ltb room most-answer l
 pub roomy : (room : ℕ) → most-answer ≤ room → short-buffer room ≡ false
 unfolding short-buffer
 roomy room l = le-ltb room most-answer l
+
+pub too-short : (room : ℕ) → short-buffer room ≡ true → room < most-answer
+unfolding short-buffer
+too-short room h = ltb-true room most-answer h
 
 pub enough : (room : ℕ) → short-buffer room ≡ false → most-answer ≤ room
 unfolding short-buffer
@@ -63,3 +67,14 @@ module _ (log : List ℕ) (room : ℕ) where
   pub answer-given : verdict-check log room ≡ passed → verdict-answer log room ≡ gives (line-or-cycle log)
   unfolding verdict-answer
   answer-given h = passed-then (verdict-check log room) (gives (line-or-cycle log)) h
+
+  -- and back: which check had refused, or that none had
+  pub refused-check : (n p : ℕ) → verdict-answer log room ≡ refused n p → verdict-check log room ≡ refused n p
+  refused-check n p h = go (verdict-check log room) refl
+    where
+      go : (a : Answer (Unit {0})) → verdict-check log room ≡ a → verdict-check log room ≡ refused n p
+      go (gives u) e = absurd (never-both (line-or-cycle log) n p (sym h ∙ answer-given e))
+      go (refused m q) e = let same = sym (answer-refused e) ∙ h in e ∙ ap₂ refused (ap said-number same) (ap said-place same)
+
+  pub passes-with-room : check-answer log ≡ passed → most-answer ≤ room → verdict-check log room ≡ passed
+  passes-with-room h l = by-content (lengths-pass log h) (roomy room l) ∙ content-passes log h

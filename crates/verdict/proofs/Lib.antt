@@ -1,3 +1,4 @@
 pub mod Checks
 pub mod Records
 pub mod Written
+pub mod Determined

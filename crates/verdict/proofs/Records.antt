@@ -2,12 +2,13 @@
 use Prim.Native.Nat.{ℕ, zero, suc, _+_, _*_, _<_, _≤_}
 use native.Mathlib.Omega.{arith}
 use native.Mathlib.Decide.{ℕ-discrete, decLt}
+use native.Mathlib.Nat.{add-zero}
 use native.Mathlib.Numerals.{add-one}
 use mathlib.Core.Path.{_≡_, refl, sym, _∙_, ap, ap₂}
 use mathlib.Core.List.{List, [], _∷_, _++_}
 use lib.Dec.{ltb}
-use lib.ListN.{length, set, length-set, length-append}
-use lib.Seq.{sets, getD-set-same, getD-set-other}
+use lib.ListN.{length, set, length-set, length-append, List·getD-append}
+use lib.Seq.{sets, getD-set-same, getD-set-other, getD-append-add}
 use borrow.Author.Tests.{lt-ltb, le-ltb}
 use Rattle.sort.proofs.Parts.{sets-append}
 use Rattle.edges.specs.Reasons.{reason}
@@ -35,6 +36,28 @@ pairs-more old f g k =
     ∙ sym (ap (λ (e : ℕ). sets before e (f k ∷ g k ∷ [])) at)
     ∙ sym (sets-append (pairs k f g) (f k ∷ g k ∷ []) old 0)
     ∙ ap (λ (e : ℕ). sets old 0 (pairs e f g)) (sym (add-one k))
+
+-- the two bytes of record k
+pub pairs-bytes : (n : ℕ) (f g : ℕ → ℕ) (k : ℕ) → k < n
+    → (entry (pairs n f g) (k * record-size) ≡ f k) × (entry (pairs n f g) (k * record-size + 1) ≡ g k)
+unfolding pairs
+pairs-bytes zero f g k l = absurd (omega (arith, l))
+pairs-bytes (suc n) f g k l = go (ℕ-discrete k n) (λ m. pairs-bytes n f g k m)
+  where
+    after : (j : ℕ) → entry (pairs n f g ++ f n ∷ g n ∷ []) (n * record-size + j) ≡ entry (f n ∷ g n ∷ []) j
+    after j =
+        ap (λ (i : ℕ). entry (pairs n f g ++ f n ∷ g n ∷ []) (i + j)) (sym (length-pairs n f g))
+        ∙ getD-append-add (pairs n f g) (f n ∷ g n ∷ []) j 0
+
+    earlier : (j : ℕ) → j < n * record-size → entry (pairs n f g ++ f n ∷ g n ∷ []) j ≡ entry (pairs n f g) j
+    earlier j m = List·getD-append (pairs n f g) (f n ∷ g n ∷ []) 0 j (omega (arith, m, length-pairs n f g))
+
+    go : Dec (k ≡ n) → (k < n → (entry (pairs n f g) (k * record-size) ≡ f k) × (entry (pairs n f g) (k * record-size + 1) ≡ g k))
+        → (entry (pairs n f g ++ f n ∷ g n ∷ []) (k * record-size) ≡ f k) × (entry (pairs n f g ++ f n ∷ g n ∷ []) (k * record-size + 1) ≡ g k)
+    go (yes e) ih = rw e (ap (entry (pairs n f g ++ f n ∷ g n ∷ [])) (sym (add-zero (n * record-size))) ∙ after 0, after 1)
+    go (no d) ih =
+        let m : k < n = omega (arith, l, d) in
+        (earlier (k * record-size) (omega (arith, m)) ∙ ih m .0, earlier (k * record-size + 1) (omega (arith, m)) ∙ ih m .1)
 
 -- records with the same bytes at every place
 pub pairs-same : (n : ℕ) (f g p q : ℕ → ℕ) → ((k : ℕ) → k < n → f k ≡ p k) → ((k : ℕ) → k < n → g k ≡ q k) → pairs n f g ≡ pairs n p q

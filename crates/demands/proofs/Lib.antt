@@ -1,0 +1,6 @@
+pub mod Marked
+pub mod Runs
+pub mod Serial
+pub mod Refusals
+pub mod Rounds
+pub mod Demands

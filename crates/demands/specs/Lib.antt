@@ -1,0 +1,3 @@
+pub mod Serial
+pub mod Reasons
+pub mod Marked
