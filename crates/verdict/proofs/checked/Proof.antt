@@ -40,7 +40,7 @@ returns-2 : tie.Need-returns-2
 returns-2 c =
     let e = c .before in
     let room = e .before .before .before .before .args .room in
-    sym (by-room (log-of e) room (lengths e) (short room (c .if1 .taken)))
+    sym (by-room (log-of e) room (lengths e) (short room (omega (arith, c .if1 .taken))))
 
 content-answer-requires : tie.Need-content-answer-requires
 content-answer-requires c κs = search needs

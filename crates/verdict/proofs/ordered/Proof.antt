@@ -112,7 +112,8 @@ write-records-requires : tie.Need-write-records-requires
 write-records-requires c κs =
     let at-n = c .before .before .before .before in
     let s = line-sorted at-n in
-    (fits s (at-n .n .given .0 .0) (line-of (at-n .n .given .0 .0) (line-or-cycle (log-of s)) (is-line at-n) .1), start s .pre .1)
+    let counted = line-of (at-n .n .given .0 .0) (line-or-cycle (log-of s)) (is-line at-n) .1 in
+    (omega (arith, fits s (at-n .n .given .0 .0) counted), start s .pre .1)
 
 enum-known-n-2 : tie.Need-enum-known-n-2
 enum-known-n-2 c = search needs
@@ -141,7 +142,7 @@ write-records-requires-2 : tie.Need-write-records-requires-2
 write-records-requires-2 c κs =
     let at-n = c .before .before .before .before .before .before .before .before .before in
     let s = cycle-sorted at-n in
-    (fits s (at-n .n2 .given .0 .0) (counted at-n), start s .pre .1)
+    (omega (arith, fits s (at-n .n2 .given .0 .0) (counted at-n)), start s .pre .1)
 
 same-length : tie.Need-same-length
 same-length c = search needs

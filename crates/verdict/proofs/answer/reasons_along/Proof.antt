@@ -90,7 +90,7 @@ cast-j : tie.Need-cast-j Inv-loop μ-loop
 cast-j c = omega (arith, low-j c)
 
 lowest-reason-requires : tie.Need-lowest-reason-requires Inv-loop μ-loop
-lowest-reason-requires c κs = (low-i c, low-j c)
+lowest-reason-requires c κs = (omega (arith, low-i c, low-j c), omega (arith, low-i c, low-j c))
 
 array-write-reasons : tie.Need-array-write-reasons Inv-loop μ-loop
 array-write-reasons c = low (c .before .before .before .before)
