@@ -8,7 +8,7 @@ use mathlib.Core.Logic.{_⊎_, inl, inr}
 use lib.Dec.{eqb}
 use borrow.Author.Tests.{eq-eqb}
 use Rattle.sets.specs.Search.{some-from}
-use Rattle.sets.proofs.Truth.{either, clash, and-always, and-nothing, or-hit-right}
+use Rattle.sets.proofs.Truth.{either, clash, and-always, and-nothing, or-nothing, or-hit-right}
 use Rattle.format.specs.Record.{records, copy-of, is-by, is-read, is-write, writes-copy}
 use Rattle.format.proofs.KindBytes.{read-no-write, writes-copy-of}
 use Rattle.edges.specs.Records.{some-after}
@@ -74,3 +74,20 @@ module _ (log : List ℕ) (e : ℕ) where
       go : (some-after log e j (conflicting log e) ≡ true) ⊎ (some-after log e j (conflicting log e) ≡ false) → some-after log e j (conflicting log e) ≡ false
       go (inl h) = let v = after-found log e j (conflicting log e) h in absurd (clash (conflicting log e (v .0)) (v .4) (conflicts-with-none r w (v .0)))
       go (inr h) = h
+
+  -- so of any record: a read with the later writers of its copy, a write with its later users
+  pub conflicts-by-kind : (j : ℕ) (later-writers later-users : Bool)
+      → later-writers ≡ some-from (e + 1) (records log) (λ f. is-by log f j && writes-copy log f (copy-of log e))
+      → later-users ≡ some-from (e + 1) (records log) (λ f. is-by log f j && uses-copy log f (copy-of log e))
+      → ((is-read log e && later-writers) || (is-write log e && later-users)) ≡ gives-conflict log e j
+  conflicts-by-kind j later-writers later-users p q = go (either (is-read log e)) (either (is-write log e))
+    where
+      go : (is-read log e ≡ true) ⊎ (is-read log e ≡ false) → (is-write log e ≡ true) ⊎ (is-write log e ≡ false)
+          → ((is-read log e && later-writers) || (is-write log e && later-users)) ≡ gives-conflict log e j
+      go (inl r) w = rw (r, read-no-write log e r) (or-nothing later-writers ∙ p ∙ sym (read-conflicts r j))
+      go (inr r) (inl w) = rw (r, w) (q ∙ sym (write-conflicts w j))
+      go (inr r) (inr w) = rw (r, w) (sym (none-conflicts r w j))
+
+  pub uses-by-kind : (c : ℕ) → uses-copy log e c ≡ ((is-read log e || is-write log e) && eqb (copy-of log e) c)
+  unfolding uses-copy
+  uses-by-kind c = refl

@@ -3,7 +3,7 @@
 use Prim.Native.Nat.{ℕ}
 use mathlib.Core.Path.{_≡_, refl, sym, _∙_, ap}
 use mathlib.Core.List.{List}
-use mathlib.Core.Bool.{true, false}
+use mathlib.Core.Bool.{true, false, _&&_}
 use mathlib.Core.Option.{Option, none, some}
 use mathlib.Core.Logic.{_⊎_, ⊎-elim}
 use Rattle.sets.proofs.Truth.{either, clash}
@@ -15,6 +15,10 @@ use Rattle.edges.specs.Reasons.{of-source, gives-write-order, gives-read
 
 module _ (log : List ℕ) (e j : ℕ) where
   -- reason 2
+  pub order-given : gives-write-order log e j ≡ (is-write log e && writer-after log (item log e) (transaction log e) j)
+  unfolding gives-write-order
+  order-given = refl
+
   pub write-gives : is-write log e ≡ true → gives-write-order log e j ≡ writer-after log (item log e) (transaction log e) j
   unfolding gives-write-order
   write-gives w = rw w refl

@@ -3,11 +3,11 @@ use Prim.Native.Nat.{ℕ, _+_, _-_, _<_}
 use native.Mathlib.Omega.{arith}
 use mathlib.Core.Path.{_≡_, refl, sym, _∙_, ap, subst}
 use mathlib.Core.List.{List}
-use mathlib.Core.Bool.{Bool, false, _&&_, _||_}
+use mathlib.Core.Bool.{Bool, true, false, _&&_, _||_}
 use lib.Dec.{eqb}
 use lib.ListN.{replicate}
 use Rattle.sets.specs.Bits.{has, in-row}
-use Rattle.sets.proofs.Truth.{and-swap, and-nothing}
+use Rattle.sets.proofs.Truth.{or-nothing, and-nothing}
 use Rattle.sets.proofs.Tables.{holds-same, holds-none}
 use Rattle.sets.proofs.Passes.{none-said, said-more, nothing-said}
 use Rattle.format.specs.Record.{transactions, records, is-by, is-write}
@@ -27,17 +27,28 @@ later-start log test wide w = none-said (records log) (λ e d j. is-by log e j &
 pub rows-start : (log : List ℕ) (says : ℕ → ℕ → Bool) {table : List ℕ} → Empty transactions table → LaterRows log says (records log) table
 rows-start log says w = none-said (records log) (λ e i j. is-by log e i && says e j) w
 
+-- added for one reason and then for another
+added-twice : (old own a b here : Bool) → ((old || (own && (a && here))) || (own && (b && here))) ≡ (old || (own && ((a || b) && here)))
+added-twice true own a b here = refl
+added-twice false false a b here = refl
+added-twice false true true true true = refl
+added-twice false true true true false = refl
+added-twice false true true false here = or-nothing here
+added-twice false true false b here = refl
+
 module _ (log : List ℕ) (k : ℕ) (l : k < records log) where
-  -- a record that passes the test of c alone adds its transaction to the set at c, and one that passes no test adds nothing
-  pub later-add : (test : ℕ → ℕ → Bool) (c : ℕ) {wide : ℕ} {table new : List ℕ} → LaterSets log test wide (k + 1) table → ((d : ℕ) → test k d ≡ eqb c d)
-      → AddedOwn log k c table new → LaterSets log test wide k new
-  later-add test c {table = table} w e v =
+  -- a record that counts for one of two reasons adds its transaction to the set at c
+  pub either-adds : (test : ℕ → ℕ → Bool) (c : ℕ) (a b : Bool) {wide : ℕ} {table mid new : List ℕ} → LaterSets log test wide (k + 1) table
+      → ((d : ℕ) → test k d ≡ ((a || b) && eqb c d)) → AddedOwn log k c a table mid → AddedOwn log k c b mid new → LaterSets log test wide k new
+  either-adds test c a b {table = table} {mid = mid} w e u v =
       said-more (records log) (λ i d j. is-by log i j && test i d) k l w
       (record {
-        whole = v .whole ∙ w .whole;
+        whole = v .whole ∙ u .whole ∙ w .whole;
         said = λ d j.
             v .said d j
-            ∙ ap (λ (b : Bool). in-row table d j || b) (and-swap (eqb c d) (is-by log k j) ∙ ap (λ (b : Bool). is-by log k j && b) (sym (e d)));
+            ∙ ap (λ (o : Bool). o || (is-by log k j && (b && eqb c d))) (u .said d j)
+            ∙ added-twice (in-row table d j) (is-by log k j) a b (eqb c d)
+            ∙ ap (λ (o : Bool). in-row table d j || (is-by log k j && o)) (sym (e d));
       })
 
   -- a test of writes alone, where only a write adds its transaction
@@ -49,11 +60,6 @@ module _ (log : List ℕ) (k : ℕ) (l : k < records log) where
         whole = v .whole ∙ w .whole;
         said = λ d j. v .said d j ∙ ap (λ (b : Bool). in-row table d j || (is-by log k j && b)) (sym (e d));
       })
-
-  pub later-stay : (test : ℕ → ℕ → Bool) {wide : ℕ} {table : List ℕ} → LaterSets log test wide (k + 1) table → ((d : ℕ) → test k d ≡ false)
-      → LaterSets log test wide k table
-  later-stay test w f =
-      nothing-said (records log) (λ i d j. is-by log i j && test i d) k l w (λ d j. ap (λ (b : Bool). is-by log k j && b) (f d) ∙ and-nothing (is-by log k j))
 
   -- what a record says is added to its transaction's row, and a record that says nothing adds nothing
   pub rows-add : (says : ℕ → ℕ → Bool) (to : ℕ) {table new : List ℕ} → LaterRows log says (k + 1) table → ((j : ℕ) → has to j ≡ says k j)

@@ -33,13 +33,13 @@ LaterItemWriters log = LaterSets log (writes-item log) items
 abbrev pub LaterRows : List ℕ → (ℕ → ℕ → Bool) → ℕ → List ℕ → Type 0
 LaterRows log says k = Holds transactions (λ i j. some-from k (records log) (λ e. is-by log e i && says e j))
 
--- a table to whose set at c the transaction of record k was added
-abbrev pub AddedOwn : List ℕ → (k c : ℕ) → List ℕ → List ℕ → Type 0
-AddedOwn log k c old = Holds (length old) (λ d j. in-row old d j || (eqb c d && is-by log k j))
+-- a table to whose set at c the transaction of record k was added, where the record counts
+abbrev pub AddedOwn : List ℕ → (k c : ℕ) → Bool → List ℕ → List ℕ → Type 0
+AddedOwn log k c counts old = Holds (length old) (λ d j. in-row old d j || (is-by log k j && (counts && eqb c d)))
 
 -- a table to whose set at c it was added where record k is a write
 abbrev pub AddedWriter : List ℕ → (k c : ℕ) → List ℕ → List ℕ → Type 0
-AddedWriter log k c old = Holds (length old) (λ d j. in-row old d j || (is-by log k j && (is-write log k && eqb c d)))
+AddedWriter log k c = AddedOwn log k c (is-write log k)
 
 -- a table to whose row of record k's transaction a set was added
 abbrev pub AddedToRow : List ℕ → (k to : ℕ) → List ℕ → List ℕ → Type 0

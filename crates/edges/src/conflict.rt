@@ -32,13 +32,10 @@ fn conflicting_later(
     ensures { λ r. ⌜ ((j : ℕ) → has r j ≡ gives-conflict (now (log .entry)) k j) ⌝ }
 {
     let kind = kind_at(log, k);
-    if kind == READ {
-        return writers[copy_at(log, k)];
-    }
-    if kind == WRITE {
-        return users[copy_at(log, k)];
-    }
-    0
+    let c = copy_at(log, k);
+    let after_read = sets::only_if(kind == READ, writers[c]);
+    let after_write = sets::only_if(kind == WRITE, users[c]);
+    sets::union(after_read, after_write)
 }
 
 // Keeps a read or a write: its transaction is a user of its copy.
@@ -48,12 +45,9 @@ fn keep_user(log: &[u8], k: usize, users: &mut [u64; Copy::COPIES])
     ensures { λ r. ⌜ LaterUsers (now (log .entry)) k (now (users .exit)) ⌝ }
 {
     let kind = kind_at(log, k);
-    if kind != READ {
-        if kind != WRITE {
-            return;
-        }
-    }
-    add_own(log, k, copy_at(log, k), users);
+    let c = copy_at(log, k);
+    add_own(log, k, c, kind == READ, users);
+    add_own(log, k, c, kind == WRITE, users);
 }
 
 // Fills an empty table with the conflicts of a log that passes, in one pass from its end, a fixed number of steps for each record.

@@ -30,11 +30,9 @@ fn after_by_order(
     requires { ⌜ KeptOrder (now log) (now writers) (now after) ⌝ }
     ensures { λ r. ⌜ ((j : ℕ) → has r j ≡ gives-write-order (now (log .entry)) k j) ⌝ }
 {
-    if kind_at(log, k) == WRITE {
-        let t = transaction_at(log, k);
-        return writers_after(log, k, t, writers, after);
-    }
-    0
+    let t = transaction_at(log, k);
+    let later = writers_after(log, k, t, writers, after);
+    sets::only_if(kind_at(log, k) == WRITE, later)
 }
 
 // The transactions that record k puts after its own by reason 3: those that write its item after its source.

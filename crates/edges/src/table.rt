@@ -12,14 +12,14 @@ use format::record::WRITE;
 use format::record::kind_at;
 use format::record::transaction_at;
 
-// The transaction of record k joins the set at c.
-pub(crate) fn add_own(log: &[u8], k: usize, c: usize, table: &mut [u64])
+// The transaction of record k joins the set at c, where the record counts.
+pub(crate) fn add_own(log: &[u8], k: usize, c: usize, counts: bool, table: &mut [u64])
     requires { ⌜ Within (now log) k ⌝ }
     requires { ⌜ c < length (now table) ⌝ }
-    ensures { λ r. ⌜ AddedOwn (now (log .entry)) k c (now (table .entry)) (now (table .exit)) ⌝ }
+    ensures { λ r. ⌜ AddedOwn (now (log .entry)) k c counts (now (table .entry)) (now (table .exit)) ⌝ }
 {
-    let t = transaction_at(log, k);
-    table[c] = sets::with_member(table[c], t);
+    let own = sets::with_member(0, transaction_at(log, k));
+    table[c] = sets::union(table[c], sets::only_if(counts, own));
 }
 
 // The transaction of a write joins the set at c.
@@ -28,9 +28,7 @@ pub(crate) fn add_writer(log: &[u8], k: usize, c: usize, table: &mut [u64])
     requires { ⌜ c < length (now table) ⌝ }
     ensures { λ r. ⌜ AddedWriter (now (log .entry)) k c (now (table .entry)) (now (table .exit)) ⌝ }
 {
-    if kind_at(log, k) == WRITE {
-        add_own(log, k, c, table);
-    }
+    add_own(log, k, c, kind_at(log, k) == WRITE, table);
 }
 
 // The set joins the row of record k's transaction.

@@ -29,16 +29,16 @@ pub enum Source {
     Refused(Refusal),
 }
 
-// Whether record e writes the copy that record k names.
+// Whether record e writes the copy that record k names. Few name it, so that is asked first.
 fn writes_copy_of(log: &[u8], e: usize, k: usize) -> bool
     requires { ⌜ Within (now log) e ⌝ }
     requires { ⌜ Within (now log) k ⌝ }
     ensures { λ r. ⌜ r ≡ writes-copy (now (log .entry)) e (copy-of (now (log .entry)) k) ⌝ }
 {
-    if kind_at(log, e) != WRITE {
+    if copy_at(log, e) != copy_at(log, k) {
         return false;
     }
-    copy_at(log, e) == copy_at(log, k)
+    kind_at(log, e) == WRITE
 }
 
 // In a log that passes, the last write of record k's copy before it; none where k is no read. Walks back over the records between.

@@ -48,6 +48,14 @@ pub fn common(a: u64, b: u64) -> u64
     a & b
 }
 
+// The set where the test holds, and else nothing. What is joined so costs the same either way: of a log's records nobody can foretell
+// which are writes, and a branch that was foretold wrongly costs more than the work it saves.
+pub fn only_if(test: bool, set: u64) -> u64
+    ensures { λ r. ⌜ ((j : ℕ) → has r j ≡ (test && has set j)) ⌝ }
+{
+    if test { set } else { 0 }
+}
+
 // The lowest number that the set has from the given one on; NUMBERS where it has none.
 pub fn member_from(set: u64, from: usize) -> usize
     ensures { λ r. ⌜ r ≡ first-from from numbers (has set) ⌝ }

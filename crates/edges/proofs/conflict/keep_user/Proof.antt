@@ -1,49 +1,49 @@
 -- `edges::conflict::keep_user` meets its contract: a read or a write uses its copy, and no other record uses one. Assumes nothing.
 use borrow.Author.Needs.{needs}
-use mathlib.Core.Path.{_≡_, _∙_, sym, ap}
-use mathlib.Core.Logic.{⊎-elim}
+use mathlib.Core.Path.{_≡_, _∙_, sym, ap, ap₂}
+use mathlib.Core.Bool.{Bool, _&&_, _||_}
 use Prim.Native.Nat.{ℕ}
 use lib.Dec.{eqb}
 use denote.Ref.{now}
-use Rattle.format.specs.Record.{copy-of}
-use Rattle.format.proofs.KindBytes.{byte-is, byte-is-not, read-byte, write-byte}
+use Rattle.format.specs.Record.{copy-of, is-read, is-write}
+use Rattle.format.proofs.KindBytes.{read-byte, write-byte}
 use Rattle.edges.specs.Reasons.{uses-copy}
-use Rattle.edges.proofs.Conflicts.{use-of-read, use-of-write, use-of-none}
-use Rattle.edges.proofs.Steps.{later-add, later-stay}
+use Rattle.edges.proofs.Conflicts.{uses-by-kind}
+use Rattle.edges.proofs.Steps.{either-adds}
 use Rattle.edges.proofs.conflict.keep_user.Statement.{statement}
 use Rattle.edges.proofs.conflict.keep_user.Tie as tie
 
 kind-at-requires : tie.Need-kind-at-requires
 kind-at-requires c κs = search needs
 
-returns : tie.Need-returns
-returns c = let at-kind = c .before .before in
-    let s = at-kind .before .before in
-    let log = now (s .args .log) in
-    let k = s .args .k in
-    let kind = at-kind .kind-at .ensures in
-    later-stay log k (s .pre .0 .there) (uses-copy log) (s .pre .1)
-    (use-of-none log k (byte-is-not (read-byte log k) kind (c .before .if1 .taken)) (byte-is-not (write-byte log k) kind (c .if2 .taken)))
-
 copy-at-requires : tie.Need-copy-at-requires
 copy-at-requires c κs = search needs
 
 add-own-requires : tie.Need-add-own-requires
-add-own-requires c κs = let at-place = c .before in let s = at-place .before .before .before .before in (s .pre .0, rw (s .pre .1 .whole) (at-place .copy-at .ensures .1))
+add-own-requires c κs = search needs
 
-returns-2 : tie.Need-returns-2
-returns-2 c = let at-place = c .before .before in
-    let at-kind = at-place .before .before in
+add-own-requires-2 : tie.Need-add-own-requires-2
+add-own-requires-2 c κs = search needs
+
+returns : tie.Need-returns
+returns c =
+    let at-first = c .before .before in
+    let at-copy = at-first .before .before in
+    let at-kind = at-copy .before in
     let s = at-kind .before .before in
     let log = now (s .args .log) in
     let k = s .args .k in
-    let kind = at-kind .kind-at .ensures in
-    let uses : ((d : ℕ) → uses-copy log k d ≡ eqb (copy-of log k) d) =
-    ⊎-elim (λ w. use-of-write log k (byte-is (write-byte log k) kind (w .1 .left))) (λ r. use-of-read log k (byte-is (read-byte log k) kind (r .left)))
-    (at-place .before .if1 .came) in
-    later-add log k (s .pre .0 .there) (uses-copy log) (at-place .copy-at .result) (s .pre .1)
-    (λ d. uses d ∙ ap (λ (y : ℕ). eqb y d) (sym (at-place .copy-at .ensures .0))) (c .add-own .ensures)
+    let byte = at-kind .kind-at .result in
+    let reads : is-read log k ≡ eqb byte 1 = read-byte log k ∙ sym (ap (λ (b : ℕ). eqb b 1) (at-kind .kind-at .ensures)) in
+    let writes : is-write log k ≡ eqb byte 2 = write-byte log k ∙ sym (ap (λ (b : ℕ). eqb b 2) (at-kind .kind-at .ensures)) in
+    either-adds log k (s .pre .0 .there) (uses-copy log) (at-copy .copy-at .result) (eqb byte 1) (eqb byte 2) (s .pre .1)
+    (λ d.
+    uses-by-kind log k d
+    ∙ ap₂ (λ (a b : Bool). (a || b) && eqb (copy-of log k) d) reads writes
+    ∙ ap (λ (x : ℕ). (eqb byte 1 || eqb byte 2) && eqb x d) (sym (at-copy .copy-at .ensures .0)))
+    (at-first .add-own .ensures) (c .add-own2 .ensures)
 
 pub keep-user-spec : {M : Type 1} → statement M
 keep-user-spec =
-    tie.close (tie.spec kind-at-requires returns copy-at-requires add-own-requires returns-2)
+    tie.close
+    (tie.spec kind-at-requires copy-at-requires add-own-requires add-own-requires-2 returns)

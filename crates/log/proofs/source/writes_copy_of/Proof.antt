@@ -1,22 +1,16 @@
--- `log::source::writes_copy_of` meets its contract: only a write writes a copy, and it writes the one that it names.
--- Assumes nothing.
+-- `log::source::writes_copy_of` meets its contract: a write writes the copy that it names, and no other. Assumes nothing.
 use borrow.Author.Needs.{needs}
-use mathlib.Core.Path.{_∙_, sym, ap₂}
+use mathlib.Core.Path.{_≡_, _∙_, sym, ap}
+use mathlib.Core.Bool.{Bool, _&&_}
 use lib.Dec.{eqb}
+use borrow.Author.Tests.{eq-eqb, ne-eqb}
+use Prim.Native.Nat.{ℕ}
 use denote.Ref.{now}
-use Rattle.format.specs.Record.{copy-of}
-use Rattle.format.proofs.KindBytes.{byte-is, byte-is-not, write-byte, copy-writes, copy-silent}
+use Rattle.sets.proofs.Truth.{and-nothing, and-always}
+use Rattle.format.specs.Record.{is-write, copy-of, writes-copy}
+use Rattle.format.proofs.KindBytes.{write-byte, writes-copy-of}
 use Rattle.log.proofs.source.writes_copy_of.Statement.{statement}
 use Rattle.log.proofs.source.writes_copy_of.Tie as tie
-
-kind-at-requires : tie.Need-kind-at-requires
-kind-at-requires c κs = search needs
-
-returns : tie.Need-returns
-returns c =
-    let s = c .before .before .before in
-    let log = now (s .args .log) in
-    sym (copy-silent log (s .args .e) (byte-is-not (write-byte log (s .args .e)) (c .before .kind-at .ensures) (c .if1 .taken)) (copy-of log (s .args .k)))
 
 copy-at-requires : tie.Need-copy-at-requires
 copy-at-requires c κs = search needs
@@ -24,14 +18,41 @@ copy-at-requires c κs = search needs
 copy-at-requires-2 : tie.Need-copy-at-requires-2
 copy-at-requires-2 c κs = search needs
 
+-- whether the two name one copy
+module _ (c : tie.After-copy-at2) where
+  abbrev start : tie.Start
+  start = c .before .before .before
+
+  abbrev writes : Bool
+  writes = is-write (now (start .args .log)) (start .args .e)
+
+  -- what record e writes, by the copies that were read
+  by-copies : writes-copy (now (start .args .log)) (start .args .e) (copy-of (now (start .args .log)) (start .args .k))
+      ≡ (writes && eqb (c .before .copy-at .result) (c .copy-at2 .result))
+  by-copies =
+      let log = now (start .args .log) in
+      writes-copy-of log (start .args .e) (copy-of log (start .args .k)) (c .before .copy-at .ensures .0)
+      ∙ ap (λ (d : ℕ). writes && eqb (c .before .copy-at .result) d) (sym (c .copy-at2 .ensures .0))
+
+returns : tie.Need-returns
+returns c =
+    let m = c .before in
+    sym
+    (by-copies m
+    ∙ ap (λ (b : Bool). writes m && b) (ne-eqb (m .before .copy-at .result) (m .copy-at2 .result) (c .if1 .taken))
+    ∙ and-nothing (writes m))
+
+kind-at-requires : tie.Need-kind-at-requires
+kind-at-requires c κs = search needs
+
 returns-2 : tie.Need-returns-2
 returns-2 c =
-    let at-kind = c .before .before .before in
-    let s = at-kind .before .before in
-    let log = now (s .args .log) in
-    let writes = byte-is (write-byte log (s .args .e)) (at-kind .kind-at .ensures) (c .before .before .if1 .left) in
-    ap₂ eqb (c .before .copy-at .ensures .0) (c .copy-at2 .ensures .0) ∙ sym (copy-writes log (s .args .e) writes (copy-of log (s .args .k)))
+    let m = c .before .before in
+    let log = now (start m .args .log) in
+    let is-copy = eq-eqb (m .before .copy-at .result) (m .copy-at2 .result) (c .before .if1 .left) in
+    let is-written : eqb (c .kind-at .result) 2 ≡ writes m = ap (λ (b : ℕ). eqb b 2) (c .kind-at .ensures) ∙ sym (write-byte log (start m .args .e)) in
+    is-written ∙ sym (by-copies m ∙ ap (λ (b : Bool). writes m && b) is-copy ∙ and-always (writes m))
 
 pub writes-copy-of-spec : {M : Type 1} → statement M
 writes-copy-of-spec =
-    tie.close (tie.spec kind-at-requires returns copy-at-requires copy-at-requires-2 returns-2)
+    tie.close (tie.spec copy-at-requires copy-at-requires-2 returns kind-at-requires returns-2)
