@@ -1,15 +1,13 @@
 //! The question "edge from i to j": the pairs that are asked of a log, and the first answer on which the two checkers differ.
 
+use crate::graph::{Graph, Pair};
 use crate::proved;
+use crate::share::Share;
 use crate::tally::EdgeTally;
 use second::check::Refusal;
-use second::edges::{all_reasons, edge, reasons, Reasons};
-use second::history::History;
+use second::edges::reasons;
 use second::record::TRANSACTIONS;
 use std::collections::BTreeSet;
-
-/// Two numbers, the i and the j of a question.
-type Pair = (usize, usize);
 
 /// Numbers that no transaction has: one past the highest, the largest byte, two that are 0 where only their lowest byte or their
 /// lowest half is looked at, and the largest of all.
@@ -36,60 +34,26 @@ impl Asked {
     }
 }
 
-/// One in so many: the first, and then each so many further on.
-struct OneIn {
-    every: u64,
-    met: u64,
-}
-
-impl OneIn {
-    fn new(every: u64) -> OneIn {
-        OneIn { every, met: 0 }
-    }
-
-    /// Whether the next is one of them.
-    fn has_the_next(&mut self) -> bool {
-        let has = self.met % self.every == 0;
-        self.met += 1;
-        has
-    }
-}
-
-/// The logs of a set that are asked more: of those that pass, which are asked all 64 × 64 pairs, and of the others, which are asked an
-/// edge at all. A log is read anew for each question, so that all questions of every log would take too long.
-pub struct Share {
-    passing: OneIn,
-    refused: OneIn,
-}
-
-impl Share {
-    pub fn one_in(passing: u64, refused: u64) -> Share {
-        Share {
-            passing: OneIn::new(passing),
-            refused: OneIn::new(refused),
-        }
-    }
-
-    pub fn all() -> Share {
-        Share::one_in(1, 1)
-    }
-}
-
 /// The first edge on which the two checkers differ, in words.
-pub fn difference(log: &[u8], share: &mut Share, tally: &mut EdgeTally) -> Option<String> {
-    match Graph::of_log(log) {
+pub fn difference(
+    log: &[u8],
+    graph: &Result<Graph, Refusal>,
+    share: &mut Share,
+    tally: &mut EdgeTally,
+) -> Option<String> {
+    match graph {
         Ok(graph) => {
             let asked = if share.passing.has_the_next() {
                 Asked::all()
             } else {
                 graph.some(share.passing.met as usize)
             };
-            difference_of_graph(log, &graph, &asked, tally)
+            difference_of_graph(log, graph, &asked, tally)
         }
         Err(refusal) if share.refused.has_the_next() => {
             OF_A_REFUSED_LOG.into_iter().find_map(|pair| {
                 tally.refused_log += 1;
-                difference_at(log, pair, Err(refusal))
+                difference_at(log, pair, Err(*refusal))
             })
         }
         Err(_) => None,
@@ -121,36 +85,7 @@ fn difference_at(log: &[u8], (i, j): Pair, expected: Result<u8, Refusal>) -> Opt
     ))
 }
 
-/// The graph of a log that passes, by the second checker: it reads the log once, and not for each question.
-struct Graph {
-    history: History,
-    members: BTreeSet<usize>,
-    reasons: Reasons,
-}
-
 impl Graph {
-    fn of_log(log: &[u8]) -> Result<Graph, Refusal> {
-        let history = History::of_log(log)?;
-        Ok(Graph {
-            members: history
-                .transactions()
-                .into_iter()
-                .map(usize::from)
-                .collect(),
-            reasons: all_reasons(&history),
-            history,
-        })
-    }
-
-    /// The answer to "edge from i to j". A number above 63 is refused whatever the log holds, so long as it passes: the empty one
-    /// is asked, which takes no time.
-    fn edge(&self, (i, j): Pair) -> Result<u8, Refusal> {
-        match self.reasons.get(i).and_then(|row| row.get(j)) {
-            Some(&reason) => Ok(reason),
-            None => edge(&[], i as u64, j as u64),
-        }
-    }
-
     /// The pairs that are asked: each number beside each, also beside itself; and numbers above 63 in either place, the other one's a
     /// transaction that is in the log, and in both.
     fn pairs(&self, asked: &Asked) -> Vec<Pair> {

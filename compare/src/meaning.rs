@@ -11,6 +11,16 @@ pub fn objection(table: &Table, answer: &Sorted) -> Option<&'static str> {
     }
 }
 
+/// The smallest line of all that fit, found without the rule, is the one; where no line fits there has to be a cycle.
+pub fn against_smallest(answer: Option<&Sorted>, smallest: Option<Vec<u8>>) -> Option<String> {
+    match (answer, smallest) {
+        (Some(Sorted::Line(line)), Some(smallest)) if *line == smallest => None,
+        (Some(Sorted::Cycle(_)), None) => None,
+        (_, Some(smallest)) => Some(format!("of all lines the first that fits is {smallest:?}")),
+        (_, None) => Some("no line at all fits".to_string()),
+    }
+}
+
 /// A line has all members of the set, each once, and keeps every edge.
 fn objection_to_line(table: &Table, line: &[u8]) -> Option<&'static str> {
     if !are_members_once(table, line) || line.len() != table.size() {

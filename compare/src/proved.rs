@@ -3,6 +3,7 @@
 use second::check::Refusal;
 use second::sort::Sorted;
 use second::tables::{Table, ROWS};
+use second::verdict::Answer as Verdict;
 
 /// `struct fruscalenta_answer`.
 #[repr(C)]
@@ -16,6 +17,16 @@ struct Answer {
 #[repr(C)]
 #[derive(Debug)]
 pub struct Coded {
+    cycle: u64,
+    length: u64,
+}
+
+/// `struct fruscalenta_judged`.
+#[repr(C)]
+#[derive(Debug, PartialEq, Eq)]
+pub struct Judged {
+    number: u64,
+    place: u64,
     cycle: u64,
     length: u64,
 }
@@ -34,6 +45,15 @@ extern "C" {
     fn fruscalenta_source_of_record(log: *const u8, len: usize, k: usize) -> Answer;
     fn fruscalenta_edge_between(log: *const u8, len: usize, i: usize, j: usize) -> Answer;
     fn fruscalenta_sort(table: *const u64, set: u64, members: *mut u8) -> Coded;
+    fn fruscalenta_verdict(log: *const u8, len: usize, answer: *mut u8, room: usize) -> Judged;
+}
+
+/// A refusal in document 01's numbers. A number beyond those of the type shows as one that document 01 has not.
+fn refusal(number: u64, place: u64) -> Refusal {
+    Refusal {
+        number: u32::try_from(number).unwrap_or(NO_ANSWER.number),
+        place: place as usize,
+    }
 }
 
 /// The value of an answer, or its refusal. Three numbers that the header rules out show as a refusal that document 01 has not, so
@@ -49,10 +69,7 @@ fn value(answer: Answer) -> Result<u64, Refusal> {
             number,
             place,
             value: 0,
-        } if number != 0 => Err(Refusal {
-            number: u32::try_from(number).unwrap_or(NO_ANSWER.number),
-            place: place as usize,
-        }),
+        } if number != 0 => Err(refusal(number, place)),
         _ => Err(NO_ANSWER),
     }
 }
@@ -100,5 +117,22 @@ pub fn sort(table: &Table, members: &mut [u8; ROWS]) -> Result<Sorted, Coded> {
         (0, Some(line)) => Ok(Sorted::Line(line.to_vec())),
         (1, Some(cycle)) => Ok(Sorted::Cycle(cycle.to_vec())),
         _ => Err(coded),
+    }
+}
+
+/// The proved verdict. It writes the records of the line or of the cycle to the front of the buffer. Four numbers that the header
+/// rules out show as they are.
+pub fn verdict(log: &[u8], answer: &mut [u8]) -> Result<Verdict, Judged> {
+    // SAFETY: two slices are len bytes to read and room bytes to write, which is all that the header asks.
+    let judged =
+        unsafe { fruscalenta_verdict(log.as_ptr(), log.len(), answer.as_mut_ptr(), answer.len()) };
+    let length = usize::try_from(judged.length)
+        .ok()
+        .filter(|&length| length <= answer.len() / 2);
+    match (judged.number, judged.place, judged.cycle, length) {
+        (0, 0, 0, Some(length)) => Ok(Verdict::Serial(length)),
+        (0, 0, 1, Some(length)) => Ok(Verdict::Cycle(length)),
+        (number, place, 0, Some(0)) if number != 0 => Ok(Verdict::Refused(refusal(number, place))),
+        _ => Err(judged),
     }
 }

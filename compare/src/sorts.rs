@@ -2,7 +2,8 @@
 //! held to the second checker's, to what a line and a cycle are, and where the set is small to a
 //! search through every line.
 
-use crate::meaning::{keeps_every_edge, objection};
+use crate::buffers::random_fill;
+use crate::meaning::{against_smallest, keeps_every_edge, objection};
 use crate::proved::{self, Coded};
 use crate::sort_tally::Origin;
 use crate::tally::Tally;
@@ -50,15 +51,6 @@ fn compare_one(origin: Origin, table: &Table, fills: &mut Generator, tally: &mut
         .count(origin.name(), found, || show(table, &expected));
 }
 
-/// What the buffer holds before a call: any bytes, so that one that was written shows.
-fn random_fill(fills: &mut Generator) -> [u8; ROWS] {
-    let mut fill = [0; ROWS];
-    for bytes in fill.chunks_exact_mut(8) {
-        bytes.copy_from_slice(&fills.bits().to_le_bytes());
-    }
-    fill
-}
-
 /// Everything that is wrong with the proved checker's answer, in words.
 fn difference(table: &Table, expected: &Sorted, fill: &[u8; ROWS]) -> Option<String> {
     let mut members = *fill;
@@ -102,19 +94,12 @@ fn against_meaning(got: &Answer, table: &Table) -> Option<String> {
     }
 }
 
-/// The smallest line that keeps every edge, found without the rule, is the one; where no line
-/// keeps every edge there has to be a cycle.
 fn against_every_line(got: &Answer, table: &Table) -> Option<String> {
     if table.size() > MOST_TO_TRY {
         return None;
     }
     let smallest = smallest_line(&table.members(), |line| keeps_every_edge(table, line));
-    match (got, smallest) {
-        (Ok(Sorted::Line(line)), Some(smallest)) if *line == smallest => None,
-        (Ok(Sorted::Cycle(_)), None) => None,
-        (_, Some(smallest)) => Some(format!("of all lines the first that fits is {smallest:?}")),
-        (_, None) => Some("no line at all fits".to_string()),
-    }
+    against_smallest(got.as_ref().ok(), smallest)
 }
 
 /// A table on which the two checkers differ: the second checker's answer, the set, and of each

@@ -1,8 +1,11 @@
 //! The answers that document 01 states of the logs that it names, held to the proved checker's.
 
+use crate::buffers::Memory;
 use crate::proved;
+use crate::verdicts::{difference_with, Verdict};
 use second::check::Refusal;
 use second::named::{Named, Stated};
+use second::verdict::Answer;
 
 /// What document 01 states of a named log's check: lines and cycles are of logs that pass, and number 3 is the verdict's alone.
 pub fn check(stated: &Stated) -> Result<(), Refusal> {
@@ -33,8 +36,27 @@ fn edges(stated: &Stated) -> Vec<(u8, u8, u8)> {
     edges
 }
 
-/// The first answer on which the proved checker differs from document 01, in words.
-pub fn difference(case: &Named) -> Option<String> {
+/// What document 01 states of a named log's verdict: "Answer record k, 2 bytes, is the transaction and 0" of a line, and the
+/// transaction and the reason of a cycle.
+pub fn verdict(stated: &Stated) -> Verdict {
+    match stated {
+        Stated::Serial(line) => Verdict {
+            answer: Answer::Serial(line.len()),
+            bytes: line.iter().flat_map(|&member| [member, 0]).collect(),
+        },
+        Stated::Cycle(cycle) => Verdict {
+            answer: Answer::Cycle(cycle.len()),
+            bytes: cycle.iter().flat_map(|&(i, reason)| [i, reason]).collect(),
+        },
+        &Stated::Refused(number, place) => Verdict {
+            answer: Answer::Refused(Refusal { number, place }),
+            bytes: Vec::new(),
+        },
+    }
+}
+
+/// The first answer on which the proved checker differs from document 01, in words. The verdict is asked with the stated buffer.
+pub fn difference(case: &Named, memory: &Memory) -> Option<String> {
     let stated = check(&case.stated);
     let got = proved::check(&case.log);
     if got != stated {
@@ -48,5 +70,6 @@ pub fn difference(case: &Named) -> Option<String> {
             ));
         }
     }
-    None
+    let stated = verdict(&case.stated);
+    difference_with(&case.log, case.buffer, memory, ("document 01", &stated))
 }

@@ -2,6 +2,7 @@
 //! the two checkers differ.
 
 use crate::sort_tally::SortTally;
+use crate::verdict_tally::VerdictTally;
 use second::check::Refusal;
 use second::notation::show;
 
@@ -9,10 +10,10 @@ use second::notation::show;
 const SHOWN: u64 = 10;
 
 /// One past the highest refusal number of document 01.
-const NUMBERS: usize = 11;
+pub const NUMBERS: usize = 11;
 
 /// One past the highest reason of an edge.
-const REASONS: usize = 4;
+pub const REASONS: usize = 4;
 
 /// How often the comparison met something, in words.
 pub struct Met(pub u64, pub String);
@@ -99,6 +100,7 @@ pub struct Tally {
     pub checks: [u64; NUMBERS],
     pub sources: SourceTally,
     pub edges: EdgeTally,
+    pub verdicts: VerdictTally,
     pub sorts: SortTally,
 }
 
@@ -124,11 +126,13 @@ impl Tally {
     }
 
     /// All that the comparison has to meet, by what was asked.
-    fn met(&self) -> [(&'static str, Vec<Met>); 4] {
+    fn met(&self) -> [(&'static str, Vec<Met>); 6] {
         [
             ("checks", self.met_by_checks()),
             ("sources", self.sources.met()),
             ("edges", self.edges.met()),
+            ("verdicts", self.verdicts.met()),
+            ("demand 3", self.verdicts.demand.met()),
             ("sorts", self.sorts.met()),
         ]
     }

@@ -2,6 +2,7 @@
 //! comparing its answers, log by log and table by table, with those of another checker.
 
 pub mod check;
+pub mod conditions;
 pub mod damage;
 pub mod edges;
 pub mod generator;

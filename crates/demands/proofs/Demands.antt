@@ -1,31 +1,33 @@
--- THE THREE DEMANDS of the tender, about every log and every buffer: of any answer and any content of the buffer that the promise of
--- `verdict::verdict` allows. Assumes nothing.
+-- The three demands hold of every log and every buffer: of any answer and any content of the buffer that the promise of the verdict allows.
+-- Assumes nothing.
 use Prim.Native.Nat.{ℕ, _+_, _*_, _<_, _≤_}
 use native.Mathlib.Omega.{arith}
 use mathlib.Core.Path.{_≡_, refl, sym, _∙_, ap, ap₂, subst, subst₂}
 use mathlib.Core.Bool.{true}
-use mathlib.Core.List.{List, _++_}
+use mathlib.Core.List.{List, [], _∷_, _++_}
 use mathlib.Core.Logic.{_⊎_, inl, inr, ⊎-elim, _↔_}
 use lib.ListN.{length, drop, List·getD-append}
 use lib.Seq.{sets}
-use Rattle.sets.specs.Search.{count-below}
-use Rattle.sets.specs.Bits.{in-row}
+use Rattle.sets.specs.Bits.{has, in-row}
 use Rattle.sets.specs.Paths.{Acyclic}
 use Rattle.format.specs.Answer.{Answer, gives, refused, passed}
 use Rattle.format.specs.Record.{transactions, in-log}
 use Rattle.format.proofs.Answers.{never-both}
 use Rattle.log.specs.Refusal.{check-answer}
 use Rattle.log.proofs.Passed.{passed-low}
-use Rattle.log.proofs.Table.{NothingApplies, passes-exactly}
-use Rattle.edges.specs.Reasons.{edge, reason, edge-table}
-use Rattle.edges.specs.Chapter.{RDSG}
-use Rattle.edges.proofs.Graphs.{edges-hold}
-use Rattle.edges.proofs.Chapter.{acyclic-is-RDSG}
+use Rattle.log.proofs.Table.{passes-exactly}
+use Rattle.edges.specs.Reasons.{edge, reason, edge-table, members, graph-answer, unless-refused}
+use Rattle.edges.specs.Numbers.{graph-says}
+use Rattle.edges.specs.declared.graph.Graph.{Graph}
+use Rattle.edges.proofs.Graphs.{edges-hold, members-hold}
+use Rattle.edges.proofs.Chapter.{acyclic-is-RDSG, extends-SG, induces-write-order}
+use Rattle.edges.proofs.Questions.{graph-refused, graph-given}
 use Rattle.sort.specs.Rule.{LineOrCycle, line, cycle, members-of, length-of}
-use Rattle.sort.specs.Lines.{Line, SmallestLine, Cycle, FromLowest, Means, edge-within}
+use Rattle.sort.specs.Lines.{stands-before, Line, SmallestLine, Cycle, FromLowest, Means, edge-within}
 use Rattle.sort.proofs.Chosen.{within-edge}
 use Rattle.sort.proofs.Determined.{line-of, cycle-of}
-use Rattle.sort.proofs.Placing.{line-length}
+use Rattle.sort.proofs.Placing.{line-length, line-acyclic}
+use Rattle.sort.proofs.Rings.{cycle-precedes}
 use Rattle.verdict.specs.Verdict.{record-size, most-answer, entry, pairs, round-to, verdict-check, line-or-cycle, verdict-answer}
 use Rattle.verdict.specs.Verdict.{line-records, cycle-records, answer-records, how-many}
 use Rattle.verdict.specs.Numbers.{verdict-says}
@@ -34,10 +36,11 @@ use Rattle.verdict.proofs.Checks.{sound-log, enough-room, answer-refused, answe
 use Rattle.verdict.proofs.Records.{length-pairs, pairs-bytes, round-low, cycle-records-are}
 use Rattle.verdict.proofs.Written.{ordered-means}
 use Rattle.verdict.proofs.Determined.{records-long, verdict-written}
-use Rattle.demands.specs.Serial.{SerialLine, SmallestSerial, LastWritesKept}
+use Rattle.demands.specs.Serial.{SerialLine}
 use Rattle.demands.specs.Reasons.{TrueReason}
-use Rattle.demands.proofs.Refusals.{GivenFor, refused-exactly}
-use Rattle.demands.proofs.Serial.{serial-exactly, last-writes}
+use Rattle.demands.specs.Demands.{Demand1, Demand2, Demand3, LineGiven, CycleGiven, GraphExactly}
+use Rattle.demands.proofs.Refusals.{refused-exactly}
+use Rattle.demands.proofs.Serial.{edge-within-log, precedes-more, serial-exactly, last-writes}
 use Rattle.demands.proofs.Rounds.{linked-round, edge-has-reason}
 
 -- what an answer gives
@@ -45,66 +48,19 @@ abbrev given-of : Answer (LineOrCycle ℕ) → LineOrCycle ℕ
 given-of (gives o) = o
 given-of (refused n p) = line 0
 
--- a refusal says the same of members as of their number
+-- a refusal, as an answer that would have given the members themselves
 abbrev refused-of : Answer (LineOrCycle ℕ) → Answer (LineOrCycle (List ℕ))
 refused-of (gives o) = refused 0 0
 refused-of (refused n p) = refused n p
 
 -- the log, the buffer as it was lent, the answer, and the buffer as it was left. The two premises are the promises of
--- crates/verdict/src/lib.rt, word for word.
+-- crates/verdict/src/lib.rt; src/lib.rt here hands them over from a call.
 module _ (log old : List ℕ) (v : Verdict) (new : List ℕ)
     (says : verdict-says v ≡ how-many (verdict-answer log (length old)))
     (leaves : new ≡ sets old 0 (answer-records log (verdict-answer log (length old))))
   where
     abbrev room : ℕ
     room = length old
-
-    -- DEMAND 1. "Every log, of any length and content, gets one answer: a serial line, a cycle or a numbered refusal with its place." The
-    -- answer is an enum of these three, so it is one of them; which, the table says exactly.
-    pub record Demand1 : Type 0 where
-      pub refused-when : (n p : ℕ) → verdict-says v ≡ refused n p ↔ GivenFor log room n p
-      pub judged-when : ((o : LineOrCycle ℕ) × (verdict-says v ≡ gives o)) ↔ (NothingApplies log × (most-answer ≤ room))
-      -- "A refusal writes nothing to the answer buffer."
-      pub refusal-writes-nothing : (n p : ℕ) → verdict-says v ≡ refused n p → new ≡ old
-
-    -- DEMAND 2. "Its graph is the replicated-data serialization graph .. no edge of that rule is missing and none is added."
-    pub record Demand2 : Type 0 where
-      pub edges-exactly : check-answer log ≡ passed → (i j : ℕ) → in-row (edge-table log) i j ≡ edge log i j
-      pub is-RDSG : check-answer log ≡ passed → Acyclic (edge log) → RDSG log (edge log)
-      -- byte 2k is a member of the cycle, which has an edge to the next one's, and byte 2k + 1 is that edge's true, lowest reason
-      pub cycle-of-edges : (n : ℕ) → verdict-says v ≡ gives (cycle n) → (k : ℕ) → k < n
-          → let i = entry new (k * record-size) in
-          let j = entry new (round-to n k * record-size) in
-          (edge log i j ≡ true) × TrueReason log i j (entry new (k * record-size + 1))
-
-    -- DEMAND 3. "For each log that passes the checks, a serial line is given exactly if some line of all its transactions exists in which .."
-    -- The line given, n its length, which is the number of transactions in the log:
-    pub record LineGiven (n : ℕ) : Type 0 where
-      pub the-line : List ℕ
-      pub its-length : n ≡ length the-line
-      pub all-transactions : n ≡ count-below transactions (in-log log)
-      pub written : new ≡ line-records the-line ++ drop (n * record-size) old
-      -- "The line given is the smallest of these in transaction numbers, read from the left."
-      pub smallest : SmallestSerial log the-line
-      pub last-writes-kept : LastWritesKept log the-line
-
-    -- "Where no such line exists, a cycle of the graph is given, each edge with its true reason."
-    pub record CycleGiven (n : ℕ) : Type 0 where
-      pub the-cycle : List ℕ
-      pub its-length : n ≡ length the-cycle
-      pub from-2-to-64 : (2 ≤ n) × (n ≤ transactions)
-      pub written : new ≡ cycle-records log the-cycle ++ drop (n * record-size) old
-      pub is-cycle : Cycle (edge log) (in-log log) the-cycle
-      pub starts-lowest : FromLowest the-cycle
-      pub no-line : (other : List ℕ) → SerialLine log other → ⊥
-
-    pub record Demand3 : Type 0 where
-      pub line-exactly : check-answer log ≡ passed → most-answer ≤ room
-          → ((xs : List ℕ) × SerialLine log xs) ↔ ((n : ℕ) × (verdict-says v ≡ gives (line n)))
-      pub else-cycle : check-answer log ≡ passed → most-answer ≤ room
-          → ((xs : List ℕ) → SerialLine log xs → ⊥) ↔ ((n : ℕ) × (verdict-says v ≡ gives (cycle n)))
-      pub line-given : (n : ℕ) → verdict-says v ≡ gives (line n) → LineGiven n
-      pub cycle-given : (n : ℕ) → verdict-says v ≡ gives (cycle n) → CycleGiven n
 
     -- what is said is the definitions' answer: a refusal,
     refusal-is : (n p : ℕ) → verdict-says v ≡ refused n p → verdict-answer log room ≡ refused n p
@@ -152,7 +108,7 @@ module _ (log old : List ℕ) (v : Verdict) (new : List ℕ)
       answered = says ∙ ap how-many (answer-given log room (passes-with-room log room ok has))
 
     -- THEOREM: demand 1
-    pub demand-1 : Demand1
+    pub demand-1 : Demand1 log old v new
     demand-1 =
         record {
           refused-when = λ n p. (λ h. refused-exactly log room n p .0 (refusal-is n p h), λ g. says ∙ ap how-many (refused-exactly log room n p .1 g));
@@ -204,6 +160,12 @@ module _ (log old : List ℕ) (v : Verdict) (new : List ℕ)
           within-edge (edge log) (in-log log) (entry ring k) (entry ring (round-to (length ring) k))
           (linked-round (edge-within (edge log) (in-log log)) ring (ring-means .0 .round) k l)
 
+      ring-reason : (k : ℕ) → k < n → TrueReason log (entry ring k) (entry ring (round-to n k)) (entry new (k * record-size + 1))
+      ring-reason k l =
+          let m = subst (λ (x : ℕ). k < x) ring-length l in
+          subst₂ (λ (x byte : ℕ). TrueReason log (entry ring k) (entry ring (round-to x k)) byte) (sym ring-length) (sym (reason-byte k m))
+          (edge-has-reason log (entry ring k) (entry ring (round-to (length ring) k)) (ring-edge k m))
+
       true-edge : (k : ℕ) → k < length ring
           → let i = entry new (k * record-size) in
           let j = entry new (round-to (length ring) k * record-size) in
@@ -215,35 +177,22 @@ module _ (log old : List ℕ) (v : Verdict) (new : List ℕ)
           let j = entry ring next in
           rw (member-byte k l, member-byte next there, reason-byte k l) (ring-edge k l, edge-has-reason log i j (ring-edge k l))
 
-    -- THEOREM: demand 2
-    pub demand-2 : Demand2
-    demand-2 =
-        record {
-          edges-exactly = λ ok. edges-hold log ok .said;
-          is-RDSG = λ ok. acyclic-is-RDSG log ok;
-          cycle-of-edges = λ n h k l.
-              subst
-              (λ (m : ℕ).
-              let i = entry new (k * record-size) in
-              let j = entry new (round-to m k * record-size) in
-              (edge log i j ≡ true) × TrueReason log i j (entry new (k * record-size + 1)))
-              (sym (ring-length n h)) (true-edge n h k (subst (λ (m : ℕ). k < m) (ring-length n h) l));
-        }
-
     -- no line of the graph, no serial line
     no-serial : check-answer log ≡ passed → ((ys : List ℕ) → Line (edge log) (in-log log) ys → ⊥) → (ys : List ℕ) → SerialLine log ys → ⊥
     no-serial ok f ys s = f ys (serial-exactly log ok ys .0 s)
 
-    cycle-is-given : (n : ℕ) → verdict-says v ≡ gives (cycle n) → CycleGiven n
+    cycle-is-given : (n : ℕ) → verdict-says v ≡ gives (cycle n) → CycleGiven log old v new n
     cycle-is-given n h =
         let means = ring-means n h in
         record {
           the-cycle = ring n h;
+          by-the-rule = is-ring n h;
           its-length = ring-length n h;
           from-2-to-64 = (omega (arith, means .0 .at-least-two, ring-length n h), omega (arith, means .2, ring-length n h));
           written = ring-written n h;
           is-cycle = means .0;
           starts-lowest = means .1;
+          true-reasons = λ k l. ring-reason n h k l;
           no-line = no-serial (sound (cycle n) h) (means .3);
         }
 
@@ -264,22 +213,46 @@ module _ (log old : List ℕ) (v : Verdict) (new : List ℕ)
       ok : check-answer log ≡ passed
       ok = sound (line n) h
 
+      line-written : new ≡ line-records given-line ++ drop (n * record-size) old
+      line-written =
+          is-written (line n) h
+          ∙ ap₂ (λ (o : LineOrCycle (List ℕ)) (m : ℕ). answer-records log (gives o) ++ drop (m * record-size) old) is-the-line (sym line-counted)
+
+      -- every edge lies between two transactions in the log, and the line keeps it
+      edge-kept : (i j : ℕ) → edge log i j ≡ true → stands-before given-line i j ≡ true
+      edge-kept i j e = line-means .is-line .keeps-edges i j (edge-within-log log i j e)
+
+      no-cycle : Acyclic (edge log)
+      no-cycle t p =
+          line-acyclic (edge log) (in-log log) given-line (line-means .is-line) t
+          (precedes-more (edge log) (edge-within (edge log) (in-log log)) (edge-within-log log) t t p)
+
       line-is-serial : SerialLine log given-line
       line-is-serial = serial-exactly log ok given-line .1 (line-means .is-line)
 
-      line-is-given : LineGiven n
+      line-is-given : LineGiven log old v new n
       line-is-given =
           record {
             the-line = given-line;
+            by-the-rule = is-the-line;
             its-length = line-counted;
             all-transactions = line-counted ∙ line-length (edge log) transactions (in-log log) given-line (passed-low log ok) (line-means .is-line);
-            written =
-                is-written (line n) h
-                ∙ ap₂ (λ (o : LineOrCycle (List ℕ)) (m : ℕ). answer-records log (gives o) ++ drop (m * record-size) old) is-the-line (sym line-counted);
+            written = line-written;
             smallest =
                 record { is-serial = line-is-serial; smallest = λ other s. line-means .smallest other (serial-exactly log ok other .0 s) };
             last-writes-kept = last-writes log ok given-line line-is-serial;
           }
+
+    -- a cycle of edges precedes itself
+    goes-round : Acyclic (edge log) → (n : ℕ) → verdict-says v ≡ gives (cycle n) → ⊥
+    goes-round f n h = go (ring n h) (ring-means n h .0)
+      where
+        go : (xs : List ℕ) → Cycle (edge log) (in-log log) xs → ⊥
+        go [] c = omega (arith, c .at-least-two)
+        go (x ∷ xs) c =
+            f x
+            (precedes-more (edge-within (edge log) (in-log log)) (edge log) (within-edge (edge log) (in-log log)) x x
+            (cycle-precedes (edge log) (in-log log) x xs c))
 
     -- one of the two is given where the log passes, and each excludes the other's reason
     module _ (ok : check-answer log ≡ passed) (has : most-answer ≤ room) where
@@ -304,6 +277,58 @@ module _ (log old : List ℕ) (v : Verdict) (new : List ℕ)
         λ w. cycle-is-given (w .0) (w .1) .no-line,
       )
 
+      acyclic-when : ((n : ℕ) × (verdict-says v ≡ gives (line n))) ↔ Acyclic (edge log)
+      acyclic-when = (
+        λ w. no-cycle (w .0) (w .1),
+        λ f. ⊎-elim (λ (a : (n : ℕ) × (verdict-says v ≡ gives (line n))). a)
+            (λ (a : (n : ℕ) × (verdict-says v ≡ gives (cycle n))). absurd (goes-round f (a .0) (a .1)))
+            (which-given (line-or-cycle log) (answered ok has)),
+      )
+
     -- THEOREM: demand 3
-    pub demand-3 : Demand3
+    pub demand-3 : Demand3 log old v new
     demand-3 = record { line-exactly = line-when; else-cycle = cycle-when; line-given = line-is-given; cycle-given = cycle-is-given }
+
+    -- THEOREM: demand 2
+    pub demand-2 : Demand2 log old v new
+    demand-2 =
+        record {
+          line-keeps-every-edge = λ n h. (given-line n h, line-written n h, edge-kept n h);
+          cycle-of-edges = λ n h k l.
+              subst
+              (λ (m : ℕ).
+              let i = entry new (k * record-size) in
+              let j = entry new (round-to m k * record-size) in
+              (edge log i j ≡ true) × TrueReason log i j (entry new (k * record-size + 1)))
+              (sym (ring-length n h)) (true-edge n h k (subst (λ (m : ℕ). k < m) (ring-length n h) l));
+          extends-SG = extends-SG log;
+          induces-write-order = λ ok. induces-write-order log ok;
+          line-where-acyclic = acyclic-when;
+          line-is-of-RDSG = λ n h. acyclic-is-RDSG log (sound (line n) h) (no-cycle n h);
+        }
+
+-- THEOREM: demand 2, of the graph by itself. The premises are the promises of `edges::graph::graph_of_log`.
+pub graph-exactly : (log : List ℕ) (g : Graph) (before table : List ℕ) → graph-says g ≡ graph-answer log
+    → table ≡ unless-refused (check-answer log) (edge-table log) before → GraphExactly log g table
+graph-exactly log g before table says leaves =
+    record {
+      edges-exactly = λ set h i j. ap (λ (rows : List ℕ). in-row rows i j) (whole set h) ∙ edges-hold log (passes set h) .said i j;
+      transactions-exactly = λ set h t. ap (λ (s : ℕ). has s t) (its-set set h) ∙ members-hold log (passes set h) t;
+    }
+  where
+    passes : (set : ℕ) → graph-says g ≡ gives set → check-answer log ≡ passed
+    passes set h = go (check-answer log) refl
+      where
+        go : (a : Answer (Unit {0})) → check-answer log ≡ a → check-answer log ≡ passed
+        go (gives tt) e = e
+        go (refused n p) e = absurd (never-both set n p (sym (graph-refused log e) ∙ sym says ∙ h))
+
+    whole : (set : ℕ) → graph-says g ≡ gives set → table ≡ edge-table log
+    whole set h = leaves ∙ ap (λ (a : Answer (Unit {0})). unless-refused a (edge-table log) before) (passes set h)
+
+    its-set : (set : ℕ) → graph-says g ≡ gives set → set ≡ members log
+    its-set set h = ap set-of-answer (sym h ∙ says ∙ graph-given log (passes set h))
+      where
+        set-of-answer : Answer ℕ → ℕ
+        set-of-answer (gives s) = s
+        set-of-answer (refused n p) = 0

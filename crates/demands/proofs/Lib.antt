@@ -1,4 +1,5 @@
 pub mod Marked
+pub mod Printed
 pub mod Runs
 pub mod Serial
 pub mod Refusals

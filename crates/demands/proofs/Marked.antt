@@ -20,7 +20,7 @@ use Rattle.verdict.specs.Verdict.{short-buffer, verdict-check, line-or-cycle, v
 use Rattle.verdict.specs.Verdict.{cycle-records}
 use Rattle.demands.specs.Marked.{marked, all-judged}
 
--- THEOREM: the verdict gives every row of document 01's marked logs as it stands
+-- THEOREM: the definitions give every row of document 01's marked logs as it stands
 pub marked-hold : all-judged marked ≡ marked
 unfolding writes is-earlier-commit commits-earlier comes-before writer-after uses-copy on-same-copy conflicting gives-conflict
     gives-write-order gives-read-before conflict write-order read-before edge reason some-of some-after known-kind in-range

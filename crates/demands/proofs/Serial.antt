@@ -58,10 +58,14 @@ unfolding the
 same-value s t e = ap the e
 
 -- paths of a smaller graph are paths of a larger one
-precedes-more : (small large : ℕ → ℕ → Bool) → ((i j : ℕ) → small i j ≡ true → large i j ≡ true)
+pub precedes-more : (small large : ℕ → ℕ → Bool) → ((i j : ℕ) → small i j ≡ true → large i j ≡ true)
     → (i j : ℕ) → Precedes small i j → Precedes large i j
 precedes-more small large m i j (by-edge h) = by-edge (m i j h)
 precedes-more small large m i j (edge-then {j = k} h p) = edge-then (m i k h) (precedes-more small large m k j p)
+
+-- every edge lies between two transactions in the log
+pub edge-within-log : (log : List ℕ) (i j : ℕ) → edge log i j ≡ true → edge-within (edge log) (in-log log) i j ≡ true
+edge-within-log log i j h = let w = edge-in-log log i j h in is-within (edge log) (in-log log) i j (w .0) (w .1) (edge-other log i j h) h
 
 module _ (log : List ℕ) (sound : check-answer log ≡ passed) where
   -- a read of a log that passes, from its source
@@ -158,18 +162,12 @@ module _ (log : List ℕ) (sound : check-answer log ≡ passed) where
   -- a line that keeps every edge is serial
   module _ (line : List ℕ) (s : Line (edge log) (in-log log) line) where
     edge-kept : (i j : ℕ) → edge log i j ≡ true → stands-before line i j ≡ true
-    edge-kept i j h =
-        let w = edge-in-log log i j h in
-        s .keeps-edges i j (is-within (edge log) (in-log log) i j (w .0) (w .1) (edge-other log i j h) h)
+    edge-kept i j h = s .keeps-edges i j (edge-within-log log i j h)
 
     no-cycle : Acyclic (serialization-edge log)
-    no-cycle t p = line-acyclic (edge log) (in-log log) line s t (precedes-more (serialization-edge log) (edge-within (edge log) (in-log log)) within t t p)
-      where
-        within : (i j : ℕ) → serialization-edge log i j ≡ true → edge-within (edge log) (in-log log) i j ≡ true
-        within i j g =
-            let h = extends-SG log i j g in
-            let w = edge-in-log log i j h in
-            is-within (edge log) (in-log log) i j (w .0) (w .1) (edge-other log i j h) h
+    no-cycle t p =
+        line-acyclic (edge log) (in-log log) line s t
+        (precedes-more (serialization-edge log) (edge-within (edge log) (in-log log)) (λ i j g. edge-within-log log i j (extends-SG log i j g)) t t p)
 
     kept-conflicts : (e f : ℕ) → e < f → f < records log → conflicting log e f ≡ true → (transaction log e ≡ transaction log f → ⊥)
         → stands-before line (transaction log e) (transaction log f) ≡ true

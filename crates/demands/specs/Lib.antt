@@ -1,3 +1,4 @@
 pub mod Serial
 pub mod Reasons
+pub mod Demands
 pub mod Marked

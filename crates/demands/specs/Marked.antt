@@ -52,7 +52,7 @@ cyclic log n bytes = record { log = log; says = gives (cycle n); bytes = bytes }
 abbrev refusal : List ℕ → (number place : ℕ) → Row
 refusal log number place = record { log = log; says = refused number place; bytes = [] }
 
--- the row that the verdict gives for a log, with a buffer of 128 bytes
+-- the row that the definitions give for a log, with a buffer of 128 bytes
 abbrev pub judged : Row → Row
 judged p =
     let answer = verdict-answer (p .log) most-answer in
@@ -62,13 +62,16 @@ abbrev pub all-judged : List Row → List Row
 all-judged [] = []
 all-judged (p ∷ ps) = judged p ∷ all-judged ps
 
--- document 01's logs
+-- P2 (history H1 of source document 000) w0[xA] w0[xB] w0[yC] c0 r1[yC] w1[xA] c1 r2[xB] w2[yC] c2: cycle 1, 2 with reasons 1, 3.
+abbrev pub P2 : Row
+P2 = cyclic (w 0 x A (w 0 x B (w 0 y C (c 0 (r 1 y C (w 1 x A (c 1 (r 2 x B (w 2 y C (c 2 [])))))))))) 2 (1 ∷ 1 ∷ 2 ∷ 3 ∷ [])
+
+-- the logs that document 01 marks P
 abbrev pub marked : List Row
 marked =
     -- P1 empty: serial, 0.
     serial [] 0 []
-    -- P2 (history H1 of source document 000) w0[xA] w0[xB] w0[yC] c0 r1[yC] w1[xA] c1 r2[xB] w2[yC] c2: cycle 1, 2 with reasons 1, 3.
-    ∷ cyclic (w 0 x A (w 0 x B (w 0 y C (c 0 (r 1 y C (w 1 x A (c 1 (r 2 x B (w 2 y C (c 2 [])))))))))) 2 (1 ∷ 1 ∷ 2 ∷ 3 ∷ [])
+    ∷ P2
     -- P3 the same without r2[xB]: serial 0 1 2.
     ∷ serial (w 0 x A (w 0 x B (w 0 y C (c 0 (r 1 y C (w 1 x A (c 1 (w 2 y C (c 2 []))))))))) 3 (0 ∷ 0 ∷ 1 ∷ 0 ∷ 2 ∷ 0 ∷ [])
     -- P4 w0[xA] w1[xA] c1 c0: cycle 0, 1 with reasons 1, 2.

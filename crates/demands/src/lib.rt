@@ -1,1 +1,24 @@
-// The three demands of the tender, as theorems about every log: proofs/Demands.antt. There is nothing to run here.
+// The three demands of the tender, as the promises of two thin functions over the verdict and the graph: so the prover ties them to what
+// those promise, and not to a copy of it. A caller that wants the answer alone calls these two themselves.
+ghost use Rattle.demands.specs.Demands.{Demand1, Demand2, Demand3, GraphExactly};
+use edges::graph::Graph;
+use edges::graph::graph_of_log;
+use format::record::TRANSACTIONS;
+use verdict::answer::Verdict;
+use verdict::verdict;
+
+// The verdict on any bytes, with any buffer.
+pub fn judged(log: &[u8], answer: &mut [u8]) -> Verdict
+    ensures { λ r. ⌜ Demand1 (now (log .entry)) (now (answer .entry)) r (now (answer .exit)) ⌝ }
+    ensures { λ r. ⌜ Demand2 (now (log .entry)) (now (answer .entry)) r (now (answer .exit)) ⌝ }
+    ensures { λ r. ⌜ Demand3 (now (log .entry)) (now (answer .entry)) r (now (answer .exit)) ⌝ }
+{
+    verdict(log, answer)
+}
+
+// The graph of any bytes.
+pub fn graph(log: &[u8], table: &mut [u64; TRANSACTIONS]) -> Graph
+    ensures { λ r. ⌜ GraphExactly (now (log .entry)) r (now (table .exit)) ⌝ }
+{
+    graph_of_log(log, table)
+}

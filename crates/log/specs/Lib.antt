@@ -1,4 +1,5 @@
 pub mod Refusal
+pub mod Given
 pub mod Source
 pub mod Numbers
 pub mod Kept

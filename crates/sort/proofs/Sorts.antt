@@ -42,7 +42,7 @@ module _ (n : ℕ) (edge : ℕ → ℕ → Bool) where
     abbrev ring : List ℕ
     ring = walk (lowest-predecessor n edge left) n t (t ∷ [])
 
-    -- THEOREM: "the walk comes round within as many steps as there are members"
+    -- THEOREM: the walk comes round within as many steps as there are members
     pub walk-comes-round : (m : ℕ) → count-below n left ≤ m → Cycle edge left (walk (lowest-predecessor n edge left) m t (t ∷ []))
     walk-comes-round m c = walk-cycle edge n left low stuck m t [] ((among-nil t, tt), alone, tt) (omega (arith, c))
       where

@@ -1,0 +1,96 @@
+-- THE THREE DEMANDS of the tender, each as a definition: what has to hold of a log, the answer buffer as it was lent, the verdict, and the
+-- buffer as it was left.
+use Prim.Native.Nat.{ℕ, _+_, _*_, _<_, _≤_}
+use mathlib.Core.Path.{_≡_}
+use mathlib.Core.Bool.{true, false}
+use mathlib.Core.List.{List, _++_}
+use mathlib.Core.Logic.{_↔_}
+use lib.ListN.{length, drop}
+use Rattle.sets.specs.Search.{count-below}
+use Rattle.sets.specs.Bits.{has, in-row}
+use Rattle.sets.specs.Paths.{Acyclic}
+use Rattle.format.specs.Answer.{gives, refused, passed}
+use Rattle.format.specs.Record.{transactions, in-log}
+use Rattle.log.specs.Refusal.{too-long, ragged, check-answer}
+use Rattle.log.specs.Given.{NothingApplies, Given}
+use Rattle.edges.specs.Reasons.{edge}
+use Rattle.edges.specs.Numbers.{graph-says}
+use Rattle.edges.specs.Chapter.{serialization-edge, InducesWriteOrder, RDSG}
+use Rattle.edges.specs.declared.graph.Graph.{Graph}
+use Rattle.sort.specs.Rule.{LineOrCycle, line, cycle}
+use Rattle.sort.specs.Lines.{stands-before, Cycle, FromLowest}
+use Rattle.verdict.specs.Verdict.{record-size, most-answer, entry, round-to, line-or-cycle, line-records, cycle-records}
+use Rattle.verdict.specs.Numbers.{verdict-says}
+use Rattle.verdict.specs.declared.answer.Verdict.{Verdict}
+use Rattle.demands.specs.Serial.{SerialLine, SmallestSerial, LastWritesKept}
+use Rattle.demands.specs.Reasons.{TrueReason}
+
+-- the number and the place that the table gives for a log and an answer buffer of so many bytes: "1 to 3 come first, in that order"
+pub data GivenFor (log : List ℕ) (room : ℕ) : ℕ → ℕ → Type 0 where
+  first-1-and-2 : {n p : ℕ} → n < 3 → Given log n p → GivenFor log room n p
+  then-3 : too-long log ≡ false → ragged log ≡ false → room < most-answer → GivenFor log room 3 0
+  then-4-to-9 : {n p : ℕ} → 3 < n → most-answer ≤ room → Given log n p → GivenFor log room n p
+
+module _ (log old : List ℕ) (v : Verdict) (new : List ℕ) where
+  -- DEMAND 1. "Every log, of any length and content, gets one answer: a serial line, a cycle or a numbered refusal with its place." The
+  -- answer is an enum of these three, so it is one of them, and which, the table says exactly. "The checker tests everything itself": the
+  -- function asks nothing of its caller.
+  pub record Demand1 : Type 0 where
+    pub refused-when : (n p : ℕ) → verdict-says v ≡ refused n p ↔ GivenFor log (length old) n p
+    pub judged-when : ((o : LineOrCycle ℕ) × (verdict-says v ≡ gives o)) ↔ (NothingApplies log × (most-answer ≤ length old))
+    -- "A refusal writes nothing to the answer buffer."
+    pub refusal-writes-nothing : (n p : ℕ) → verdict-says v ≡ refused n p → new ≡ old
+
+  -- DEMAND 2. "Its graph is the replicated-data serialization graph .. no edge of that rule is missing and none is added." Every edge counts
+  -- for a line, and a cycle is made of edges.
+  pub record Demand2 : Type 0 where
+    pub line-keeps-every-edge : (n : ℕ) → verdict-says v ≡ gives (line n)
+        → (xs : List ℕ) × (new ≡ line-records xs ++ drop (n * record-size) old) × ((i j : ℕ) → edge log i j ≡ true → stands-before xs i j ≡ true)
+    -- byte 2k is a member of the cycle, with an edge to the member of the next record, and byte 2k + 1 is that edge's true, lowest reason
+    pub cycle-of-edges : (n : ℕ) → verdict-says v ≡ gives (cycle n) → (k : ℕ) → k < n
+        → let i = entry new (k * record-size) in
+        let j = entry new (round-to n k * record-size) in
+        (edge log i j ≡ true) × TrueReason log i j (entry new (k * record-size + 1))
+    -- "The chapter's two conditions therefore hold wherever the graph has no cycle, and its second is not asked of a graph with one"
+    pub extends-SG : (i j : ℕ) → serialization-edge log i j ≡ true → edge log i j ≡ true
+    pub induces-write-order : check-answer log ≡ passed → InducesWriteOrder log (edge log)
+    pub line-where-acyclic : check-answer log ≡ passed → most-answer ≤ length old → ((n : ℕ) × (verdict-says v ≡ gives (line n))) ↔ Acyclic (edge log)
+    pub line-is-of-RDSG : (n : ℕ) → verdict-says v ≡ gives (line n) → RDSG log (edge log)
+
+  -- DEMAND 3. The line given, n its length, which is the number of transactions in the log:
+  pub record LineGiven (n : ℕ) : Type 0 where
+    pub the-line : List ℕ
+    pub by-the-rule : line-or-cycle log ≡ line the-line
+    pub its-length : n ≡ length the-line
+    pub all-transactions : n ≡ count-below transactions (in-log log)
+    pub written : new ≡ line-records the-line ++ drop (n * record-size) old
+    -- "The line given is the smallest of these in transaction numbers, read from the left."
+    pub smallest : SmallestSerial log the-line
+    -- "Its last writer of an item made the last write on each copy of the item that it wrote."
+    pub last-writes-kept : LastWritesKept log the-line
+
+  -- "Where no such line exists, a cycle of the graph is given, each edge with its true reason."
+  pub record CycleGiven (n : ℕ) : Type 0 where
+    pub the-cycle : List ℕ
+    pub by-the-rule : line-or-cycle log ≡ cycle the-cycle
+    pub its-length : n ≡ length the-cycle
+    pub from-2-to-64 : (2 ≤ n) × (n ≤ transactions)
+    pub written : new ≡ cycle-records log the-cycle ++ drop (n * record-size) old
+    pub is-cycle : Cycle (edge log) (in-log log) the-cycle
+    pub starts-lowest : FromLowest the-cycle
+    pub true-reasons : (k : ℕ) → k < n → TrueReason log (entry the-cycle k) (entry the-cycle (round-to n k)) (entry new (k * record-size + 1))
+    pub no-line : (other : List ℕ) → SerialLine log other → ⊥
+
+  -- "For each log that passes the checks, a serial line is given exactly if some line of all its transactions exists in which .."
+  pub record Demand3 : Type 0 where
+    pub line-exactly : check-answer log ≡ passed → most-answer ≤ length old
+        → ((xs : List ℕ) × SerialLine log xs) ↔ ((n : ℕ) × (verdict-says v ≡ gives (line n)))
+    pub else-cycle : check-answer log ≡ passed → most-answer ≤ length old
+        → ((xs : List ℕ) → SerialLine log xs → ⊥) ↔ ((n : ℕ) × (verdict-says v ≡ gives (cycle n)))
+    pub line-given : (n : ℕ) → verdict-says v ≡ gives (line n) → LineGiven n
+    pub cycle-given : (n : ℕ) → verdict-says v ≡ gives (cycle n) → CycleGiven n
+
+-- Demand 2 of the graph by itself: bit j of number i is 1 exactly for an edge from i to j, and bit t of the set exactly where t is in the log
+pub record GraphExactly (log : List ℕ) (g : Graph) (table : List ℕ) : Type 0 where
+  pub edges-exactly : (set : ℕ) → graph-says g ≡ gives set → (i j : ℕ) → in-row table i j ≡ edge log i j
+  pub transactions-exactly : (set : ℕ) → graph-says g ≡ gives set → (t : ℕ) → has set t ≡ in-log log t

@@ -1,0 +1,69 @@
+// The lines of an answer: the first, and one for each answer record.
+ghost use Prim.Native.Nat.{_+_, _*_, _≤_};
+ghost use lib.ListN.{length};
+ghost use Rattle.format.specs.Record.{transactions};
+ghost use Rattle.verdict.specs.Verdict.{record-size};
+ghost use Rattle.text.specs.Text.{text-room, first-room, record-room, first-line, refusal-line, record-line, record-lines};
+ghost use Rattle.text.specs.Kept.{Put};
+use crate::put::TEXT;
+use crate::put::put_bytes;
+use crate::put::put_decimal;
+use verdict::answer::RECORD_SIZE;
+
+// The line that a line or a cycle begins with: a word and how many members there are.
+pub(crate) fn put_first(word: &[u8], n: usize, text: &mut [u8; TEXT]) -> usize
+    requires { ⌜ length (now word) ≤ 8 ⌝ }
+    ensures { λ r. ⌜ Put (now (text .entry)) 0 (first-line (now (word .entry)) n) (now (text .exit)) r ⌝ }
+    ensures { λ r. ⌜ r ≤ first-room ⌝ }
+{
+    let at = put_bytes(word, text, 0);
+    let at = put_bytes(b" ", text, at);
+    let at = put_decimal(n as u64, text, at);
+    put_bytes(b"\n", text, at)
+}
+
+// The line of a refusal.
+pub(crate) fn put_refusal(number: u64, place: usize, text: &mut [u8; TEXT]) -> usize
+    ensures { λ r. ⌜ Put (now (text .entry)) 0 (refusal-line number place) (now (text .exit)) r ⌝ }
+{
+    let at = put_bytes(b"refused ", text, 0);
+    let at = put_decimal(number, text, at);
+    let at = put_bytes(b" ", text, at);
+    let at = put_decimal(place as u64, text, at);
+    put_bytes(b"\n", text, at)
+}
+
+// The line of one record, with its reason where that is asked for.
+fn put_record(t: u8, reason: u8, reasons: bool, text: &mut [u8; TEXT], at: usize) -> usize
+    requires { ⌜ at + record-room ≤ text-room ⌝ }
+    ensures { λ r. ⌜ Put (now (text .entry)) at (record-line reasons t reason) (now (text .exit)) r ⌝ }
+{
+    let mut at = put_decimal(t as u64, text, at);
+    if reasons {
+        at = put_bytes(b" ", text, at);
+        at = put_decimal(reason as u64, text, at);
+    }
+    put_bytes(b"\n", text, at)
+}
+
+// The lines of the first n answer records.
+pub(crate) fn put_records(
+    answer: &[u8],
+    n: usize,
+    reasons: bool,
+    text: &mut [u8; TEXT],
+    start: usize,
+) -> usize
+    requires { ⌜ n ≤ transactions ⌝ }
+    requires { ⌜ n * record-size ≤ length (now answer) ⌝ }
+    requires { ⌜ start + n * record-room ≤ text-room ⌝ }
+    ensures { λ r. ⌜ Put (now (text .entry)) start (record-lines reasons (now (answer .entry)) n) (now (text .exit)) r ⌝ }
+{
+    let mut at = start;
+    for k in 0..n {
+        let t = answer[k * RECORD_SIZE];
+        let reason = answer[k * RECORD_SIZE + 1];
+        at = put_record(t, reason, reasons, text, at);
+    }
+    at
+}
