@@ -18,10 +18,10 @@ use Rattle.sort.specs.Rule.{predecessor, among, place-of, lowest, to-lowest, wa
 use Rattle.sort.specs.Rule.{cycle-from, sorted}
 use Rattle.verdict.specs.Verdict.{short-buffer, verdict-check, line-or-cycle, verdict-answer, pairs, round-to, line-records}
 use Rattle.verdict.specs.Verdict.{cycle-records}
-use Rattle.demands.specs.Marked.{marked, all-judged}
+use Rattle.demands.specs.Marked.{marked, all-given}
 
 -- THEOREM: the definitions give every row of document 01's marked logs as it stands
-pub marked-hold : all-judged marked ≡ marked
+pub marked-hold : all-given marked ≡ marked
 unfolding writes is-earlier-commit commits-earlier comes-before writer-after uses-copy on-same-copy conflicting gives-conflict
     gives-write-order gives-read-before conflict write-order read-before edge reason some-of some-after known-kind in-range
     form-answer kind transaction item site records read-kind write-kind commit-kind is-read is-write is-commit copy-number

@@ -1,11 +1,10 @@
 -- What the program prints for the bytes of P2: the lines of the row that the table of marked logs has for it. Assumes nothing.
 use Prim.Native.Nat.{ℕ}
-use mathlib.Core.Path.{_≡_, refl, _∙_, ap, ap₂}
+use mathlib.Core.Path.{_≡_, ap, ap₂}
 use mathlib.Core.List.{List, [], _∷_}
-use Rattle.verdict.specs.Verdict.{most-answer, verdict-answer, answer-records, how-many}
 use Rattle.text.specs.Text.{digit, decimal-within, decimal, space, newline, serial-word, cycle-word, refused-word, first-line}
 use Rattle.text.specs.Text.{refusal-line, record-line, record-lines, printed-answer, printed-with, printed}
-use Rattle.demands.specs.Marked.{Row, P2, marked, judged}
+use Rattle.demands.specs.Marked.{Row, P2, row-given}
 use Rattle.demands.proofs.Marked.{marked-hold}
 
 -- "cycle 2", "1 1", "2 3", with the newline behind each
@@ -19,7 +18,7 @@ second (p ∷ []) = P2
 second (p ∷ q ∷ ps) = q
 
 -- what is printed for a row's log goes by what the row says and its bytes
-printed-by-row : (p : Row) → judged p ≡ p → printed (p .log) ≡ printed-answer (p .says) (p .bytes)
+printed-by-row : (p : Row) → row-given p ≡ p → printed (p .log) ≡ printed-answer (p .says) (p .bytes)
 unfolding printed printed-with
 printed-by-row p h = ap₂ printed-answer (ap (λ (q : Row). q .says) h) (ap (λ (q : Row). q .bytes) h)
 

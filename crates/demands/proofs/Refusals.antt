@@ -9,8 +9,7 @@ use Rattle.format.specs.Answer.{Answer, gives, refused, passed}
 use Rattle.format.proofs.Answers.{said-number, said-place}
 use Rattle.log.specs.Refusal.{length-answer}
 use Rattle.log.proofs.Table.{lengths-back, not-1, not-2, length-given, content-given, given-length, given-content}
-use Rattle.sort.specs.Rule.{LineOrCycle}
-use Rattle.verdict.specs.Verdict.{most-answer, short-buffer, verdict-check, verdict-answer}
+use Rattle.verdict.specs.Verdict.{short-buffer, verdict-check, verdict-answer}
 use Rattle.demands.specs.Demands.{GivenFor, first-1-and-2, then-3, then-4-to-9}
 use Rattle.verdict.proofs.Checks.{short, roomy, too-short, enough, by-length, by-room, by-content, answer-refused, refused-check}
 

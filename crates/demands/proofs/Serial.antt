@@ -4,7 +4,7 @@ use Prim.Native.Nat.{ℕ, _<_}
 use native.Mathlib.Omega.{arith}
 use native.Mathlib.Decide.{ℕ-discrete, decLt}
 use mathlib.Core.Path.{_≡_, refl, sym, _∙_, ap, subst, subst₂}
-use mathlib.Core.Bool.{Bool, true, false, _&&_}
+use mathlib.Core.Bool.{Bool, true, false}
 use mathlib.Core.List.{List}
 use mathlib.Core.Option.{Option, none, some}
 use mathlib.Core.Logic.{_⊎_, inl, inr, ⊎-elim, _↔_}
@@ -14,8 +14,8 @@ use Rattle.sets.specs.Paths.{Precedes, by-edge, edge-then, Acyclic}
 use Rattle.sets.proofs.Truth.{clash, either, and-left, and-right}
 use Rattle.sets.proofs.Searches.{Last, last-none, last-some, last-view}
 use Rattle.format.specs.Answer.{passed}
-use Rattle.format.specs.Record.{sites, records, transaction, item, is-by, is-read, is-write, copy-of, copy-number}
-use Rattle.format.specs.Record.{writes-copy, wrote-copy, wrote-item, in-log}
+use Rattle.format.specs.Record.{records, transaction, item, is-by, is-read, is-write, copy-of, copy-number}
+use Rattle.format.specs.Record.{writes-copy, wrote-item, in-log}
 use Rattle.log.specs.Refusal.{check-answer}
 use Rattle.log.specs.Source.{source}
 use Rattle.log.proofs.Sources.{Sourced, sourced, source-of, source-record-of}
@@ -34,7 +34,7 @@ use Rattle.sort.specs.Lines.{edge-within, stands-before, Line}
 use Rattle.sort.proofs.Chosen.{is-within, within-edge}
 use Rattle.sort.proofs.Stands.{stands-not-itself, stands-through}
 use Rattle.sort.proofs.Placing.{line-acyclic}
-use Rattle.demands.specs.Serial.{before, last-of, last-writer, run-writer, last-write, SerialLine, LastWritesKept}
+use Rattle.demands.specs.Serial.{before, last-writer, run-writer, last-write, SerialLine, LastWritesKept}
 use Rattle.demands.proofs.Runs.{one-stands-first, LastBefore, last-before-found, last-before-is, LastOf, the-last, last-of-found}
 
 -- the writer of a read in a run on a single copy, case by case

@@ -53,14 +53,14 @@ abbrev refusal : List ℕ → (number place : ℕ) → Row
 refusal log number place = record { log = log; says = refused number place; bytes = [] }
 
 -- the row that the definitions give for a log, with a buffer of 128 bytes
-abbrev pub judged : Row → Row
-judged p =
+abbrev pub row-given : Row → Row
+row-given p =
     let answer = verdict-answer (p .log) most-answer in
     record { log = p .log; says = how-many answer; bytes = answer-records (p .log) answer }
 
-abbrev pub all-judged : List Row → List Row
-all-judged [] = []
-all-judged (p ∷ ps) = judged p ∷ all-judged ps
+abbrev pub all-given : List Row → List Row
+all-given [] = []
+all-given (p ∷ ps) = row-given p ∷ all-given ps
 
 -- P2 (history H1 of source document 000) w0[xA] w0[xB] w0[yC] c0 r1[yC] w1[xA] c1 r2[xB] w2[yC] c2: cycle 1, 2 with reasons 1, 3.
 abbrev pub P2 : Row

@@ -10,7 +10,7 @@ use mathlib.Core.Logic.{_⊎_, inl, inr, ⊎-elim}
 use lib.Dec.{eqb}
 use borrow.Author.Tests.{eqb-false, not-true}
 use Rattle.sets.proofs.Truth.{and-left, and-right, or-cases}
-use Rattle.format.specs.Record.{records, transaction, item, is-by}
+use Rattle.format.specs.Record.{records, transaction, item}
 use Rattle.log.specs.Source.{source}
 use Rattle.log.proofs.Passed.{by-own, by-same}
 use Rattle.edges.specs.Order.{writes, writer-after}

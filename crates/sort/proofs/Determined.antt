@@ -1,6 +1,6 @@
 -- The promise of the sort determines its answer and the buffer that was lent; and what is promised means, of every table and every set,
 -- the smallest line or a cycle where there is none. Assumes nothing.
-use Prim.Native.Nat.{ℕ, _+_, _<_, _^_}
+use Prim.Native.Nat.{ℕ, _<_, _^_}
 use native.Mathlib.Omega.{arith}
 use native.Mathlib.Nat.{zero-add}
 use mathlib.Core.Path.{_≡_, refl, sym, _∙_, ap}

@@ -3,13 +3,12 @@
 use Prim.Native.Nat.{ℕ, _<_, _≤_}
 use mathlib.Core.Path.{_≡_, refl, _∙_, sym, ap, ap₂}
 use mathlib.Core.List.{List}
-use mathlib.Core.Bool.{Bool, true, false}
+use mathlib.Core.Bool.{true, false}
 use borrow.Author.Tests.{lt-ltb, le-ltb, ltb-true, ltb-false}
 use Rattle.format.specs.Answer.{Answer, gives, refused, passed, row, _then_}
 use Rattle.format.proofs.Answers.{then-left, then-right, row-fails, passed-then, never-both, said-number, said-place}
 use Rattle.log.specs.Refusal.{length-answer, content-answer, check-answer}
 use Rattle.log.proofs.Table.{both-pass, lengths-pass, content-passes}
-use Rattle.sort.specs.Rule.{LineOrCycle}
 use Rattle.verdict.specs.Verdict.{most-answer, short-buffer, verdict-check, line-or-cycle, verdict-answer}
 
 -- too little room, or enough

@@ -1,13 +1,13 @@
 -- The promise of the verdict determines its answer and every byte of the buffer that was lent: the answer's records stand in front, and all
 -- other bytes keep their content. Assumes nothing.
-use Prim.Native.Nat.{ℕ, _+_, _*_, _≤_}
+use Prim.Native.Nat.{ℕ, _*_, _≤_}
 use native.Mathlib.Omega.{arith}
 use native.Mathlib.Nat.{zero-add}
 use mathlib.Core.Path.{_≡_, refl, sym, _∙_, ap, subst}
 use mathlib.Core.List.{List, _++_}
 use lib.ListN.{length, drop}
 use lib.Seq.{sets, sets-eq}
-use Rattle.format.specs.Answer.{Answer, gives, refused, passed}
+use Rattle.format.specs.Answer.{Answer, gives, refused}
 use Rattle.format.specs.Numbers.{number-of, place-of}
 use Rattle.format.proofs.Answers.{never-both, said-number, said-place}
 use Rattle.format.proofs.Determined.{same-refusal}

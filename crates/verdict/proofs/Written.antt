@@ -2,9 +2,8 @@
 -- buffer are its records. Assumes nothing.
 use Prim.Native.Nat.{ℕ, _+_, _<_, _≤_}
 use native.Mathlib.Omega.{arith}
-use mathlib.Core.Path.{_≡_, refl, sym, _∙_, ap, ap₂, subst₂, fun-ext}
-use mathlib.Core.Bool.{Bool}
-use mathlib.Core.List.{List, _++_}
+use mathlib.Core.Path.{_≡_, sym, _∙_, ap, ap₂, subst₂, fun-ext}
+use mathlib.Core.List.{List}
 use lib.ListN.{length, getD, drop, List·getD-append}
 use lib.Seq.{sets, sets-eq}
 use Rattle.sets.specs.Bits.{numbers, has, in-row, Holds}

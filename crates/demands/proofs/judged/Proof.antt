@@ -20,10 +20,9 @@ returns c =
     let old = now (s .args .answer) in
     let v = a .verdict .result in
     let new = a .verdict .last .1 .0 in
-    let said = a .verdict .ensures in (
-      demand-1 log old v new (said .0) (said .1),
-      (demand-2 log old v new (said .0) (said .1), demand-3 log old v new (said .0) (said .1)),
-    )
+    let says = a .verdict .ensures .0 in
+    let leaves = a .verdict .ensures .1 in
+    (says, (leaves, (demand-1 log old v new says leaves, (demand-2 log old v new says leaves, demand-3 log old v new says leaves))))
 
 pub judged-spec : {M : Type 1} → statement M
 judged-spec = tie.close (tie.spec verdict-requires same-length returns)

@@ -1,7 +1,7 @@
 -- `verdict::verdict` meets its contract: a refusal is passed on before the buffer is touched, and else the log's line or cycle is given.
 -- Assumes nothing.
 use borrow.Author.Needs.{needs}
-use mathlib.Core.Path.{_≡_, refl, sym, _∙_, ap}
+use mathlib.Core.Path.{_≡_, sym, _∙_, ap}
 use mathlib.Core.List.{List}
 use Prim.Native.Nat.{ℕ}
 use lib.ListN.{length}

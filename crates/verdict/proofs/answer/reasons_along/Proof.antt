@@ -1,10 +1,10 @@
 -- `verdict::answer::reasons_along` meets its contract. The invariant: the reasons of the first k have been found. Assumes nothing.
 use native.Mathlib.Omega.{arith}
-use mathlib.Core.Path.{_≡_, _∙_, ap, ap₂, sym, subst}
+use mathlib.Core.Path.{_≡_, _∙_, ap, sym, subst}
 use mathlib.Core.List.{List}
-use Prim.Native.Nat.{ℕ, _+_, _*_, _-_, _<_, _≤_}
+use Prim.Native.Nat.{ℕ, _-_, _<_, _≤_}
 use mathlib.Core.Logic.{⊎-elim}
-use lib.ListN.{length, set, length-replicate}
+use lib.ListN.{length-replicate}
 use denote.Ref.{now}
 use Rattle.edges.specs.Table.{lowest-in}
 use Rattle.verdict.specs.Verdict.{entry, round-to}

@@ -1,12 +1,12 @@
 -- `verdict::answer::write_records` meets its contract. The invariant: the first k records have been written. Assumes nothing.
 use native.Mathlib.Omega.{arith}
-use mathlib.Core.Path.{_≡_, _∙_, ap, sym}
+use mathlib.Core.Path.{_≡_, _∙_, ap}
 use mathlib.Core.List.{List}
 use Prim.Native.Nat.{ℕ, _+_, _*_, _-_, _<_, _≤_}
 use lib.ListN.{length, set, length-set}
 use lib.Seq.{sets, length-sets}
 use denote.Ref.{now}
-use Rattle.verdict.specs.Verdict.{entry, pairs, record-size, most-answer}
+use Rattle.verdict.specs.Verdict.{entry, pairs}
 use Rattle.verdict.proofs.Records.{pairs-none, pairs-more}
 use Rattle.verdict.proofs.answer.write_records.Statement.{statement}
 use Rattle.verdict.proofs.answer.write_records.Tie as tie
