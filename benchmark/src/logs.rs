@@ -11,7 +11,7 @@ use second::verdict::Answer;
 const OPEN_IN_CYCLES: usize = 4;
 
 /// A near read is of a copy that one of so many writes before it wrote.
-const NEAR: usize = 8;
+const NEAR: usize = 2;
 
 /// How many logs are drawn at most for one that is wanted.
 const DRAWS: u64 = 100_000;

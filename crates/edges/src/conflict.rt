@@ -62,9 +62,10 @@ pub(crate) fn conflicts(log: &[u8], table: &mut [u64; TRANSACTIONS])
     let mut k = record_count(log);
     while 0 < k {
         k -= 1;
+        // The row is stored last: what was read of the two tables is then still at hand when they are stored.
         let later = conflicting_later(log, k, &users, &writers);
-        add_to_row(log, k, later, table);
         keep_user(log, k, &mut users);
         add_writer(log, k, copy_at(log, k), &mut writers);
+        add_to_row(log, k, later, table);
     }
 }

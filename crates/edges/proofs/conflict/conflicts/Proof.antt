@@ -67,36 +67,36 @@ sub-k c = omega arith
 conflicting-later-requires : tie.Need-conflicting-later-requires Inv-loop μ-loop
 conflicting-later-requires c κs = let t = c .before .before in (right t, (next-users t, next-writers t))
 
-add-to-row-requires : tie.Need-add-to-row-requires Inv-loop μ-loop
-add-to-row-requires c κs = let t = c .before .before .before .before in (right t, t .before .loop .inv .1 .whole)
-
 keep-user-requires : tie.Need-keep-user-requires Inv-loop μ-loop
-keep-user-requires c κs =
-    let t = c .before .before .before .before .before .before in
-    (right t, next-users t)
+keep-user-requires c κs = let t = c .before .before .before .before in (right t, next-users t)
 
 copy-at-requires : tie.Need-copy-at-requires Inv-loop μ-loop
-copy-at-requires c κs = right (c .before .before .before .before .before .before .before)
+copy-at-requires c κs = right (c .before .before .before .before .before)
 
 slice-aggregate-add-writer : tie.Need-slice-aggregate-add-writer Inv-loop μ-loop
-slice-aggregate-add-writer c = sym (c .before .before .before .before .before .before .before .before .before .before .loop .inv .3 .whole)
+slice-aggregate-add-writer c = sym (c .before .before .before .before .before .before .before .before .loop .inv .3 .whole)
 
 add-writer-requires : tie.Need-add-writer-requires Inv-loop μ-loop
 add-writer-requires c κs =
     let at-copy = c .before in
-    let t = at-copy .before .before .before .before .before .before .before .before in
+    let t = at-copy .before .before .before .before .before .before in
     (right t, rw (t .before .loop .inv .3 .whole) (at-copy .copy-at .ensures .1))
+
+add-to-row-requires : tie.Need-add-to-row-requires Inv-loop μ-loop
+add-to-row-requires c κs =
+    let t = c .before .before .before .before .before .before .before .before .before .before in
+    (right t, t .before .loop .inv .1 .whole)
 
 loop-less : tie.Need-loop-less Inv-loop μ-loop
 loop-less c = omega arith
 
 loop-again : tie.Need-loop-again Inv-loop μ-loop
 loop-again c =
-    let at-writer = c .before in
+    let at-edges = c in
+    let at-writer = at-edges .before .before .before in
     let at-copy = at-writer .before .before in
     let at-user = at-copy .before in
-    let at-edges = at-user .before .before in
-    let at-later = at-edges .before .before in
+    let at-later = at-user .before .before in
     let t = at-later .before .before .before in
     let l = t .before .loop in (
       omega (arith, l .inv .0),
@@ -124,11 +124,11 @@ conflicts-spec =
     loop-holds
     sub-k
     conflicting-later-requires
-    add-to-row-requires
     keep-user-requires
     copy-at-requires
     slice-aggregate-add-writer
     add-writer-requires
+    add-to-row-requires
     loop-less
     loop-again
     returns)
