@@ -40,6 +40,16 @@ pub struct Record {
     pub site: u8,
 }
 
+/// The record with these fields.
+pub fn record(kind: u8, transaction: u8, item: u8, site: u8) -> Record {
+    Record {
+        kind,
+        transaction,
+        item,
+        site,
+    }
+}
+
 impl Record {
     /// The record is a read.
     pub fn is_read(self) -> bool {

@@ -3,7 +3,7 @@
 
 use crate::generator::Generator;
 use crate::notation::log_of_records;
-use crate::record::{Record, COMMIT, ITEMS, READ, SITES, TRANSACTIONS, WRITE};
+use crate::record::{record, Record, COMMIT, ITEMS, READ, SITES, TRANSACTIONS, WRITE};
 
 /// How one member of the ring has an edge to the next.
 #[derive(Clone, Copy, Debug, PartialEq, Eq)]
@@ -154,16 +154,6 @@ fn records_of_link(ring: &Ring, k: usize) -> Option<(Record, Record)> {
             record(WRITE, to, item, there),
         )),
         Link::Missing => None,
-    }
-}
-
-/// The record with these fields.
-fn record(kind: u8, transaction: u8, item: u8, site: u8) -> Record {
-    Record {
-        kind,
-        transaction,
-        item,
-        site,
     }
 }
 

@@ -69,7 +69,8 @@ fn ordered(log: &[u8], answer: &mut [u8]) -> Verdict
 }
 
 // The verdict on any bytes, with any buffer. The first 2n bytes of the buffer are written, n the length of the line or the cycle; all
-// others keep their content, and a refusal writes nothing.
+// others keep their content, and a refusal writes nothing. Four passes over the records, each with a fixed number of steps for a record but
+// for the walk back from a read to its source; then the sort. Some 30 KiB are cleared, however short the log.
 pub fn verdict(log: &[u8], answer: &mut [u8]) -> Verdict
     ensures { λ r. ⌜ verdict-says r ≡ how-many (verdict-answer (now (log .entry)) (length (now (answer .entry)))) ⌝ }
     ensures { λ r. ⌜ now (answer .exit) ≡ sets (now (answer .entry)) 0 (answer-records (now (log .entry)) (verdict-answer (now (log .entry)) (length (now (answer .entry))))) ⌝ }

@@ -2,7 +2,7 @@
 
 use second::generator::Generator;
 use second::notation::log_of_records;
-use second::record::{Record, COMMIT, ITEMS, READ, SITES, TRANSACTIONS, WRITE};
+use second::record::{record, Record, COMMIT, ITEMS, READ, SITES, TRANSACTIONS, WRITE};
 
 /// What gives the edge from the last member of a chain back to its first.
 #[derive(Clone, Copy, PartialEq, Eq)]
@@ -11,16 +11,6 @@ enum Closing {
     WriteOrder,
     /// Takes one transaction more, which is in the log and not in the cycle.
     ReadBefore,
-}
-
-/// The record with these fields.
-fn record(kind: u8, transaction: u8, item: u8, site: u8) -> Record {
-    Record {
-        kind,
-        transaction,
-        item,
-        site,
-    }
 }
 
 /// So many different transactions, the lowest first.
