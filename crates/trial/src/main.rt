@@ -2,7 +2,8 @@
 // and the answers are printed as the release program prints them.
 //
 // The stack stands on standard input. For each log it holds the log's length and the answer buffer's, two bytes each, the low one first,
-// and then the log's bytes.
+// and then the log's bytes. Both the stack (crates/trial/stdin) and the answers that the gate holds this program to (crates/trial/stdout) are
+// made by the second checker: second/src/bin/trial_stack says how.
 ghost use Prim.Native.Nat.{_+_, _≤_, _<_};
 ghost use lib.ListN.{length};
 ghost use Rattle.trial.specs.Stack.{header-size};
