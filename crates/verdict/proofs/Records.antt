@@ -7,7 +7,7 @@ use native.Mathlib.Numerals.{add-one}
 use mathlib.Core.Path.{_≡_, refl, sym, _∙_, ap, ap₂}
 use mathlib.Core.List.{List, [], _∷_, _++_}
 use lib.ListN.{length, set, length-set, length-append, List·getD-append}
-use lib.Seq.{sets, getD-set-same, getD-set-other, getD-append-add}
+use lib.Seq.{sets, length-sets, getD-set-same, getD-set-other, getD-append-add}
 use borrow.Author.Tests.{lt-ltb, le-ltb}
 use Rattle.sort.proofs.Parts.{sets-append}
 use Rattle.edges.specs.Reasons.{reason}
@@ -35,6 +35,10 @@ pairs-more old f g k =
     ∙ sym (ap (λ (e : ℕ). sets before e (f k ∷ g k ∷ [])) at)
     ∙ sym (sets-append (pairs k f g) (f k ∷ g k ∷ []) old 0)
     ∙ ap (λ (e : ℕ). sets old 0 (pairs e f g)) (sym (add-one k))
+
+-- what has been written takes no room away
+pub pairs-room : (old new : List ℕ) (n : ℕ) (f g : ℕ → ℕ) → new ≡ sets old 0 (pairs n f g) → length new ≡ length old
+pairs-room old new n f g e = ap length e ∙ length-sets old 0 (pairs n f g)
 
 -- the two bytes of record k
 pub pairs-bytes : (n : ℕ) (f g : ℕ → ℕ) (k : ℕ) → k < n

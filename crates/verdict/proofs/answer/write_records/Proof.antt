@@ -4,10 +4,10 @@ use mathlib.Core.Path.{_≡_, _∙_, ap}
 use mathlib.Core.List.{List}
 use Prim.Native.Nat.{ℕ, _+_, _*_, _-_, _<_, _≤_}
 use lib.ListN.{length, set, length-set}
-use lib.Seq.{sets, length-sets}
+use lib.Seq.{sets}
 use denote.Ref.{now}
 use Rattle.verdict.specs.Verdict.{entry, pairs}
-use Rattle.verdict.proofs.Records.{pairs-none, pairs-more}
+use Rattle.verdict.proofs.Records.{pairs-none, pairs-more, pairs-room}
 use Rattle.verdict.proofs.answer.write_records.Statement.{statement}
 use Rattle.verdict.proofs.answer.write_records.Tie as tie
 
@@ -28,8 +28,8 @@ module _ (c : tie.In-loop Inv-loop μ-loop) where
   same-room : length (c .before .loop .answer) ≡ length (now (c .before .before .args .answer))
   same-room =
       let a = c .before .before .args in
-      ap length (c .before .loop .inv .1)
-      ∙ length-sets (now (a .answer)) 0 (pairs (c .before .loop .k) (entry (now (a .members))) (entry (now (a .seconds))))
+      let l = c .before .loop in
+      pairs-room (now (a .answer)) (l .answer) (l .k) (entry (now (a .members))) (entry (now (a .seconds))) (l .inv .1)
 
   room : c .before .loop .k * 2 + 1 < length (c .before .loop .answer)
   room = omega (arith, low, same-room, c .before .before .pre .1)
@@ -79,7 +79,7 @@ same-length : tie.Need-same-length Inv-loop μ-loop
 same-length c =
     let l = c .before .loop in
     let a = c .before .before .args in
-    ap length (l .inv .1) ∙ length-sets (now (a .answer)) 0 (pairs (l .k) (entry (now (a .members))) (entry (now (a .seconds))))
+    pairs-room (now (a .answer)) (l .answer) (l .k) (entry (now (a .members))) (entry (now (a .seconds))) (l .inv .1)
 
 returns : tie.Need-returns Inv-loop μ-loop
 returns c =
