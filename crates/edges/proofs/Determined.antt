@@ -5,9 +5,8 @@ use mathlib.Core.List.{List}
 use Rattle.format.specs.Answer.{Answer, gives, refused}
 use Rattle.format.proofs.Answers.{said-number, said-place}
 use Rattle.format.proofs.Determined.{same-refusal, no-zero}
-use Rattle.log.specs.Refusal.{check-answer}
-use Rattle.edges.specs.Reasons.{edge-answer, edge-table, graph-answer, unless-refused}
 use Rattle.edges.specs.Numbers.{graph-says, edge-says}
+use Rattle.edges.specs.Promises.{GivesGraph, TellsEdge}
 use Rattle.edges.specs.declared.graph.Graph.{Graph}
 use Rattle.edges.specs.declared.graph.Graph.the-variants.{Of, Refused}
 use Rattle.edges.specs.declared.graph.Edge.{Edge}
@@ -30,14 +29,11 @@ same-edge (Reason m) (EdgeRefused r) e = absurd (no-zero r (sym (ap said-number 
 same-edge (EdgeRefused r) (Reason n) e = absurd (no-zero r (ap said-number e))
 same-edge (EdgeRefused r) (EdgeRefused s) e = ap EdgeRefused (same-refusal r s (ap said-number e) (ap said-place e))
 
--- The premises below are the promises of src/graph.rt, word for word.
 -- THEOREM: any two answers that `graph_of_log` promises for a log and a table are equal, and so are the tables left
-pub graph-determined : (log old : List ℕ) (a b : Graph) (left right : List ℕ)
-    → graph-says a ≡ graph-answer log → left ≡ unless-refused (check-answer log) (edge-table log) old
-    → graph-says b ≡ graph-answer log → right ≡ unless-refused (check-answer log) (edge-table log) old
+pub graph-determined : (log old : List ℕ) (a b : Graph) (left right : List ℕ) → GivesGraph log old a left → GivesGraph log old b right
     → (a ≡ b) × (left ≡ right)
-graph-determined log old a b left right p q r s = (same-graph a b (p ∙ sym r), q ∙ sym s)
+graph-determined log old a b left right p q = (same-graph a b (p .says ∙ sym (q .says)), p .leaves ∙ sym (q .leaves))
 
 -- THEOREM: any two answers that `edge_between` promises for a log and two numbers are equal
-pub edge-determined : (log : List ℕ) (i j : ℕ) (a b : Edge) → edge-says a ≡ edge-answer log i j → edge-says b ≡ edge-answer log i j → a ≡ b
+pub edge-determined : (log : List ℕ) (i j : ℕ) (a b : Edge) → TellsEdge log i j a → TellsEdge log i j b → a ≡ b
 edge-determined log i j a b p q = same-edge a b (p ∙ sym q)

@@ -1,7 +1,7 @@
 -- Which edges a record gives by the write order: a write by reason 2, a record with a source by reason 3. No other file opens what it
 -- gives for these. Assumes nothing.
 use Prim.Native.Nat.{ℕ}
-use mathlib.Core.Path.{_≡_, refl, sym, _∙_, ap}
+use mathlib.Core.Path.{_≡_, refl, sym, _∙_}
 use mathlib.Core.List.{List}
 use mathlib.Core.Bool.{true, false, _&&_}
 use mathlib.Core.Option.{Option, none, some}
@@ -11,7 +11,7 @@ use Rattle.format.specs.Record.{transaction, item, is-write}
 use Rattle.log.specs.Source.{source-record, source}
 use Rattle.log.proofs.Sources.{source-of, source-none}
 use Rattle.edges.specs.Order.{writer-after}
-use Rattle.edges.specs.Reasons.{of-source, gives-write-order, gives-read-before}
+use Rattle.edges.specs.Reasons.{gives-write-order, gives-read-before}
 
 module _ (log : List ℕ) (e j : ℕ) where
   -- reason 2
@@ -35,11 +35,11 @@ module _ (log : List ℕ) (e j : ℕ) where
   -- reason 3
   pub sourced-gives : (s : ℕ) → source log e ≡ some s → gives-read-before log e j ≡ writer-after log (item log e) s j
   unfolding gives-read-before
-  sourced-gives s h = ap (λ (o : Option ℕ). of-source o (λ t. writer-after log (item log e) t j)) h
+  sourced-gives s h = rw h refl
 
   no-source-gives : source log e ≡ none → gives-read-before log e j ≡ false
   unfolding gives-read-before
-  no-source-gives h = ap (λ (o : Option ℕ). of-source o (λ t. writer-after log (item log e) t j)) h
+  no-source-gives h = rw h refl
 
   pub gives-read-found : gives-read-before log e j ≡ true → (s : ℕ) × (source log e ≡ some s) × (writer-after log (item log e) s j ≡ true)
   gives-read-found h = go (source log e) refl

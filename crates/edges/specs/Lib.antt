@@ -5,3 +5,4 @@ pub mod Table
 pub mod Chapter
 pub mod Kept
 pub mod Numbers
+pub mod Promises

@@ -5,8 +5,8 @@ ghost use Rattle.sets.specs.Bits.{Holds};
 ghost use Rattle.format.specs.Answer.{passed};
 ghost use Rattle.format.specs.Record.{transactions};
 ghost use Rattle.log.specs.Refusal.{check-answer};
-ghost use Rattle.edges.specs.Reasons.{conflict, write-order, read-before, reason, edge-answer, members, edge-table, graph-answer, unless-refused};
-ghost use Rattle.edges.specs.Numbers.{graph-says, edge-says};
+ghost use Rattle.edges.specs.Reasons.{conflict, write-order, read-before, reason, members, edge-table};
+ghost use Rattle.edges.specs.Promises.{GivesGraph, TellsEdge};
 use crate::conflict::conflicts;
 use crate::order::keep_order;
 use crate::reasons::order_edges;
@@ -71,8 +71,7 @@ fn edges_of_log(log: &[u8], table: &mut [u64; TRANSACTIONS]) -> u64
 
 // The graph of any bytes: the log is checked first, and a refusal leaves the table.
 pub fn graph_of_log(log: &[u8], table: &mut [u64; TRANSACTIONS]) -> Graph
-    ensures { λ r. ⌜ graph-says r ≡ graph-answer (now (log .entry)) ⌝ }
-    ensures { λ r. ⌜ now (table .exit) ≡ unless-refused (check-answer (now (log .entry))) (edge-table (now (log .entry))) (now (table .entry)) ⌝ }
+    ensures { λ r. ⌜ GivesGraph (now (log .entry)) (now (table .entry)) r (now (table .exit)) ⌝ }
 {
     match check(log) {
         Checked::Refused(why) => Graph::Refused(why),
@@ -96,7 +95,7 @@ fn reason_between(log: &[u8], i: usize, j: usize) -> u8
 // The reason of the edge from i to j. Any bytes and any numbers may be asked: the log is checked first, and then that both are
 // transactions.
 pub fn edge_between(log: &[u8], i: usize, j: usize) -> Edge
-    ensures { λ r. ⌜ edge-says r ≡ edge-answer (now (log .entry)) i j ⌝ }
+    ensures { λ r. ⌜ TellsEdge (now (log .entry)) i j r ⌝ }
 {
     match check(log) {
         Checked::Refused(why) => Edge::Refused(why),

@@ -5,13 +5,11 @@ use mathlib.Core.Path.{_≡_, refl, sym, _∙_, ap}
 use mathlib.Core.List.{List}
 use mathlib.Core.Option.{Option, none, some}
 use Rattle.format.specs.Answer.{Answer, gives, refused}
-use Rattle.format.specs.Numbers.{checked-says}
 use Rattle.format.specs.declared.refusal.Checked.{Checked}
 use Rattle.format.proofs.Determined.{same-refusal, no-zero, same-checked}
 use Rattle.format.proofs.Answers.{said-number, said-place}
-use Rattle.log.specs.Refusal.{check-answer}
-use Rattle.log.specs.Source.{source-record, source-answer}
 use Rattle.log.specs.Numbers.{source-says, found-says}
+use Rattle.log.specs.Promises.{ChecksLength, ChecksContent, ChecksLog, FindsSource, TellsSource}
 use Rattle.log.specs.declared.source.Found.{Found}
 use Rattle.log.specs.declared.source.Found.the-variants.{At, None as NoneFound}
 use Rattle.log.specs.declared.source.Source.{Source}
@@ -40,15 +38,20 @@ same-found (At e) NoneFound h = let z : _≡_ {A = ℕ} 0 1 = cc in absurd (omeg
 same-found NoneFound (At f) h = let z : _≡_ {A = ℕ} 0 1 = cc in absurd (omega arith)
 same-found NoneFound NoneFound h = refl
 
--- The premises below are the promises of src/check.rt and src/source.rt, word for word.
--- THEOREM: any two answers that `check` promises for a log are equal
-pub check-determined : (log : List ℕ) (a b : Checked) → checked-says a ≡ check-answer log → checked-says b ≡ check-answer log → a ≡ b
+-- THEOREM: any two answers that `check` promises for a log are equal; and so for its halves
+pub check-determined : (log : List ℕ) (a b : Checked) → ChecksLog log a → ChecksLog log b → a ≡ b
 check-determined log a b p q = same-checked a b (p ∙ sym q)
 
+pub length-determined : (log : List ℕ) (a b : Checked) → ChecksLength log a → ChecksLength log b → a ≡ b
+length-determined log a b p q = same-checked a b (p ∙ sym q)
+
+pub content-determined : (log : List ℕ) (a b : Checked) → ChecksContent log a → ChecksContent log b → a ≡ b
+content-determined log a b p q = same-checked a b (p ∙ sym q)
+
 -- THEOREM: any two answers that `source_of_record` promises for a log and a number are equal
-pub source-determined : (log : List ℕ) (k : ℕ) (a b : Source) → source-says a ≡ source-answer log k → source-says b ≡ source-answer log k → a ≡ b
+pub source-determined : (log : List ℕ) (k : ℕ) (a b : Source) → TellsSource log k a → TellsSource log k b → a ≡ b
 source-determined log k a b p q = same-source a b (p ∙ sym q)
 
 -- THEOREM: any two answers that `source_record` promises for a log and a record are equal
-pub found-determined : (log : List ℕ) (k : ℕ) (a b : Found) → found-says a ≡ source-record log k → found-says b ≡ source-record log k → a ≡ b
+pub found-determined : (log : List ℕ) (k : ℕ) (a b : Found) → FindsSource log k a → FindsSource log k b → a ≡ b
 found-determined log k a b p q = same-found a b (p ∙ sym q)

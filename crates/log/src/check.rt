@@ -3,7 +3,8 @@ ghost use mathlib.Core.Path.{_≡_};
 ghost use Prim.Native.Nat.{_<_};
 ghost use Rattle.format.specs.Record.{records};
 ghost use Rattle.format.specs.Numbers.{checked-says};
-ghost use Rattle.log.specs.Refusal.{record-answer, end-answer, length-answer, content-answer, check-answer};
+ghost use Rattle.log.specs.Refusal.{record-answer, end-answer};
+ghost use Rattle.log.specs.Promises.{ChecksLength, ChecksContent, ChecksLog};
 ghost use Rattle.log.specs.Kept.{KeptCopies, KeptItems, KeptCommits, KeptNames};
 use crate::kept::history_answer;
 use crate::kept::keep_commit;
@@ -63,7 +64,7 @@ fn record_answer(
 
 // Numbers 1 and 2, which look at the length alone.
 pub fn length_answer(log: &[u8]) -> Checked
-    ensures { λ r. ⌜ checked-says r ≡ length-answer (now (log .entry)) ⌝ }
+    ensures { λ r. ⌜ ChecksLength (now (log .entry)) r ⌝ }
 {
     let n = log.len();
     if MOST_BYTES < n {
@@ -77,7 +78,7 @@ pub fn length_answer(log: &[u8]) -> Checked
 
 // Numbers 4 to 9: one pass over the records, a fixed number of steps for each, and at most 64 steps after the last.
 pub fn content_answer(log: &[u8]) -> Checked
-    ensures { λ r. ⌜ checked-says r ≡ content-answer (now (log .entry)) ⌝ }
+    ensures { λ r. ⌜ ChecksContent (now (log .entry)) r ⌝ }
 {
     let mut copy_writers = [0u64; Copy::COPIES];
     let mut item_writers = [0u64; Copy::ITEMS];
@@ -101,7 +102,7 @@ pub fn content_answer(log: &[u8]) -> Checked
 
 // The first number that applies to the log, with its place; or it has passed. Any bytes may stand in it.
 pub fn check(log: &[u8]) -> Checked
-    ensures { λ r. ⌜ checked-says r ≡ check-answer (now (log .entry)) ⌝ }
+    ensures { λ r. ⌜ ChecksLog (now (log .entry)) r ⌝ }
 {
     let length = length_answer(log);
     if let Checked::Refused(_) = length {

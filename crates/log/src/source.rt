@@ -4,8 +4,7 @@ ghost use Prim.Native.Nat.{_<_};
 ghost use Rattle.format.specs.Answer.{passed};
 ghost use Rattle.format.specs.Record.{Within, records, writes-copy, copy-of};
 ghost use Rattle.log.specs.Refusal.{check-answer};
-ghost use Rattle.log.specs.Source.{source-record, source-answer};
-ghost use Rattle.log.specs.Numbers.{found-says, source-says};
+ghost use Rattle.log.specs.Promises.{FindsSource, TellsSource};
 use crate::check::check;
 use format::record::READ;
 use format::record::WRITE;
@@ -45,7 +44,7 @@ fn writes_copy_of(log: &[u8], e: usize, k: usize) -> bool
 pub fn source_record(log: &[u8], k: usize) -> Found
     requires { ⌜ check-answer (now log) ≡ passed ⌝ }
     requires { ⌜ k < records (now log) ⌝ }
-    ensures { λ r. ⌜ found-says r ≡ source-record (now (log .entry)) k ⌝ }
+    ensures { λ r. ⌜ FindsSource (now (log .entry)) k r ⌝ }
 {
     if kind_at(log, k) != READ {
         return Found::None;
@@ -63,7 +62,7 @@ pub fn source_record(log: &[u8], k: usize) -> Found
 // The transaction whose write record k reads. Any bytes and any number may be asked: the log is checked first, and then that it
 // has a record k.
 pub fn source_of_record(log: &[u8], k: usize) -> Source
-    ensures { λ r. ⌜ source-says r ≡ source-answer (now (log .entry)) k ⌝ }
+    ensures { λ r. ⌜ TellsSource (now (log .entry)) k r ⌝ }
 {
     match check(log) {
         Checked::Refused(why) => Source::Refused(why),

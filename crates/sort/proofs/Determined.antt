@@ -9,9 +9,10 @@ use lib.ListN.{length, drop}
 use lib.Seq.{sets, sets-eq}
 use Rattle.sets.specs.Bits.{numbers, has, in-row}
 use Rattle.sets.proofs.Members.{has-low}
-use Rattle.sort.specs.Rule.{LineOrCycle, line, cycle, sorted, members-of, length-of}
+use Rattle.sort.specs.Rule.{LineOrCycle, line, cycle, members-of, length-of}
 use Rattle.sort.specs.Lines.{Below, Means}
 use Rattle.sort.specs.Numbers.{sorted-says}
+use Rattle.sort.specs.Promises.{SortsTable, sorted-table}
 use Rattle.sort.specs.declared.Sorted.{Sorted}
 use Rattle.sort.specs.declared.Sorted.the-variants.{Line, Cycle}
 use Rattle.sort.proofs.Sorts.{sorted-means, means-fit}
@@ -43,15 +44,10 @@ pub cycle-of : (n : ℕ) (o : LineOrCycle (List ℕ)) → cycle n ≡ length-of 
 cycle-of n (line xs) e = absurd (differ (cycle n) (line (length xs)) (λ z. omega (arith, z)) e)
 cycle-of n (cycle xs) e = (refl, ap count-of e)
 
--- The premises below are the promises of src/lib.rt, word for word.
 -- THEOREM: any two answers that `sort` promises for a table, a set and a buffer are equal, and so are the buffers left
 pub sort-determined : (table : List ℕ) (set : ℕ) (old : List ℕ) (a b : Sorted) (left right : List ℕ)
-    → sorted-says a ≡ length-of (sorted numbers (in-row table) (has set))
-    → left ≡ sets old 0 (members-of (sorted numbers (in-row table) (has set)))
-    → sorted-says b ≡ length-of (sorted numbers (in-row table) (has set))
-    → right ≡ sets old 0 (members-of (sorted numbers (in-row table) (has set)))
-    → (a ≡ b) × (left ≡ right)
-sort-determined table set old a b left right p q r s = (same-sorted a b (p ∙ sym r), q ∙ sym s)
+    → SortsTable table set old a left → SortsTable table set old b right → (a ≡ b) × (left ≡ right)
+sort-determined table set old a b left right p q = (same-sorted a b (p .says ∙ sym (q .says)), p .leaves ∙ sym (q .leaves))
 
 -- what the machine's 64 bits can say
 module _ (table : List ℕ) (set : ℕ) (fits : set < 2 ^ numbers) where
@@ -59,13 +55,13 @@ module _ (table : List ℕ) (set : ℕ) (fits : set < 2 ^ numbers) where
   low t h = has-low set numbers t fits h
 
   -- THEOREM: what `sort` promises for a table and a set is the smallest line, or a cycle where there is no line
-  pub sort-means : Means numbers (in-row table) (has set) (sorted numbers (in-row table) (has set))
+  pub sort-means : Means numbers (in-row table) (has set) (sorted-table table set)
   sort-means = sorted-means numbers (in-row table) (has set) low
 
   -- THEOREM: it fits the buffer, so that the members stand in its front, and behind them is what was there
   pub sort-written : (old : List ℕ) → length old ≡ numbers
-      → let xs = members-of (sorted numbers (in-row table) (has set)) in sets old 0 xs ≡ xs ++ drop (length xs) old
+      → let xs = members-of (sorted-table table set) in sets old 0 xs ≡ xs ++ drop (length xs) old
   sort-written old w =
-      let xs = members-of (sorted numbers (in-row table) (has set)) in
-      sets-eq xs old 0 (omega (arith, w, means-fit numbers (in-row table) (has set) low (sorted numbers (in-row table) (has set)) sort-means))
+      let xs = members-of (sorted-table table set) in
+      sets-eq xs old 0 (omega (arith, w, means-fit numbers (in-row table) (has set) low (sorted-table table set) sort-means))
       ∙ ap (λ (k : ℕ). xs ++ drop k old) (zero-add (length xs))

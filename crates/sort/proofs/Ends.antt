@@ -2,7 +2,7 @@
 -- predecessors that were kept is the rule's walk, since in a rest where none is ready these are the lowest. Assumes nothing.
 use Prim.Native.Nat.{ℕ, zero, suc, _+_, _<_, _≤_}
 use native.Mathlib.Omega.{arith}
-use mathlib.Core.Path.{_≡_, refl, sym, _∙_, ap, fun-ext}
+use mathlib.Core.Path.{_≡_, refl, sym, _∙_, ap, ap₂, fun-ext}
 use mathlib.Core.Bool.{Bool, true, false}
 use mathlib.Core.List.{List, [], _∷_}
 use mathlib.Core.Option.{Option, none, some}
@@ -50,11 +50,17 @@ module _ (edge : ℕ → ℕ → Bool) (set : ℕ → Bool) where
   pub line-fits : length line-of ≤ numbers
   line-fits = placed-length numbers edge numbers set
 
-  -- the front of the buffer that the line was placed in
-  pub line-front : (blank : List ℕ) → length blank ≡ numbers → slice 0 (length line-of) (sets blank 0 line-of) ≡ line-of
-  line-front blank w =
-      ap (take (length line-of)) (sets-eq line-of blank 0 (omega (arith, w, line-fits)))
-      ∙ take-at line-of (drop (0 + length line-of) blank) (length line-of) refl
+  -- the front of the buffer that the line was placed in, as long as the line, is the line; written to another buffer, it stands there
+  module _ (blank : List ℕ) (w : length blank ≡ numbers) where
+    line-front : slice 0 (length line-of) (sets blank 0 line-of) ≡ line-of
+    line-front =
+        ap (take (length line-of)) (sets-eq line-of blank 0 (omega (arith, w, line-fits)))
+        ∙ take-at line-of (drop (0 + length line-of) blank) (length line-of) refl
+
+    pub front-written : (to : List ℕ) (k : ℕ) {buffer written : List ℕ} → buffer ≡ sets blank 0 line-of → written ≡ sets to 0 (slice 0 k buffer)
+        → k ≡ length line-of → written ≡ sets to 0 line-of
+    front-written to k is-placed is-written is-long =
+        is-written ∙ ap₂ (λ (n : ℕ) (xs : List ℕ). sets to 0 (slice 0 n xs)) is-long is-placed ∙ ap (sets to 0) line-front
 
   module _ (left : ℕ → Bool) (same : (t : ℕ) → left t ≡ rest numbers edge numbers set t) where
     left-is-rest : left ≡ rest numbers edge numbers set

@@ -1,10 +1,6 @@
 // The sort: the smallest line of a set of transactions that keeps every edge of a table, or a cycle of its edges. It knows tables of
 // edges and sets, and no logs.
-ghost use mathlib.Core.Path.{_≡_};
-ghost use lib.Seq.{sets};
-ghost use Rattle.sets.specs.Bits.{numbers, has, in-row};
-ghost use Rattle.sort.specs.Rule.{sorted, members-of, length-of};
-ghost use Rattle.sort.specs.Numbers.{sorted-says};
+ghost use Rattle.sort.specs.Promises.{SortsTable};
 
 mod cycle;
 mod line;
@@ -27,8 +23,7 @@ pub enum Sorted {
 // outside the set, are ignored. The members are written to the front of the buffer, a cycle's along the edges from its lowest number; all
 // other bytes keep their content, since a line is written only when it is whole.
 pub fn sort(table: &[u64; NUMBERS], set: u64, members: &mut [u8; NUMBERS]) -> Sorted
-    ensures { λ r. ⌜ sorted-says r ≡ length-of (sorted numbers (in-row (now (table .entry))) (has set)) ⌝ }
-    ensures { λ r. ⌜ now (members .exit) ≡ sets (now (members .entry)) 0 (members-of (sorted numbers (in-row (now (table .entry))) (has set))) ⌝ }
+    ensures { λ r. ⌜ SortsTable (now (table .entry)) set (now (members .entry)) r (now (members .exit)) ⌝ }
 {
     let mut waits = [0u8; NUMBERS];
     let mut line = [0u8; NUMBERS];

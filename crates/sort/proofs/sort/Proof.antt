@@ -14,7 +14,7 @@ use Rattle.sets.proofs.Tables.{empty-entry}
 use Rattle.sets.proofs.From.{FirstFrom}
 use Rattle.sort.specs.Rule.{LineOrCycle, line, cycle, length-of, members-of, placed, rest}
 use Rattle.sort.proofs.Waits.{found-from, kept-start, searched-start}
-use Rattle.sort.proofs.Ends.{line-fits, line-front, ends-in-line, ends-in-cycle}
+use Rattle.sort.proofs.Ends.{line-fits, front-written, ends-in-line, ends-in-cycle}
 use Rattle.sort.proofs.sort.Statement.{statement}
 use Rattle.sort.proofs.sort.Tie as tie
 
@@ -79,14 +79,14 @@ returns c =
     let m = t .before in
     let to = now (m .before .before .before .before .args .members) in
     let none-left = subst (FirstFrom (left m) 0 numbers) (t .if1 .taken) (first-left m) in
-    let is-line = ends-in-line (edge m) (set m) (left m) (same-rest m) none-left in (
-      ap line (counted m) ∙ sym (ap length-of is-line),
-      c .write-part .ensures
-          ∙ ap (λ (xs : List ℕ). sets to 0 (slice 0 (m .before .place-all .result .count) xs)) (is-placed m)
-          ∙ ap (λ (k : ℕ). sets to 0 (slice 0 k (sets (blank m) 0 (placed numbers (edge m) numbers (set m))))) (counted m)
-          ∙ ap (sets to 0) (line-front (edge m) (set m) (blank m) (length-replicate {A = ℕ} 64 0))
-          ∙ sym (ap (λ (o : LineOrCycle (List ℕ)). sets to 0 (members-of o)) is-line),
-    )
+    let is-line = ends-in-line (edge m) (set m) (left m) (same-rest m) none-left in
+    record {
+      says = ap line (omega (arith, counted m)) ∙ sym (ap length-of is-line);
+      leaves =
+          front-written (edge m) (set m) (blank m) (length-replicate {A = ℕ} 64 0) to (m .before .place-all .result .count)
+          (is-placed m) (c .write-part .ensures) (omega (arith, counted m))
+          ∙ sym (ap (λ (o : LineOrCycle (List ℕ)). sets to 0 (members-of o)) is-line);
+    }
 
 -- where one is left
 low : (c : tie.Else1) → first (c .before) < numbers
@@ -102,10 +102,11 @@ returns-2 c =
     let to = now (m .before .before .before .before .args .members) in
     let waits = m .before .place-all .last .1 .1 .0 in
     let blocked = m .before .place-all .ensures .1 .1 .1 .1 in
-    let is-cycle = ends-in-cycle (edge m) (set m) (left m) (same-rest m) waits blocked (first m) (first-left m) (low e) in (
-      ap cycle (c .write-cycle .ensures .0) ∙ sym (ap length-of is-cycle),
-      c .write-cycle .ensures .1 ∙ sym (ap (λ (o : LineOrCycle (List ℕ)). sets to 0 (members-of o)) is-cycle),
-    )
+    let is-cycle = ends-in-cycle (edge m) (set m) (left m) (same-rest m) waits blocked (first m) (first-left m) (low e) in
+    record {
+      says = ap cycle (c .write-cycle .ensures .0) ∙ sym (ap length-of is-cycle);
+      leaves = c .write-cycle .ensures .1 ∙ sym (ap (λ (o : LineOrCycle (List ℕ)). sets to 0 (members-of o)) is-cycle);
+    }
 
 pub sort-spec : {M : Type 1} → statement M
 sort-spec = tie.close (tie.spec place-all-requires member-from-requires write-part-requires returns write-cycle-requires returns-2)

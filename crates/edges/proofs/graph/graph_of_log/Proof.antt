@@ -36,12 +36,15 @@ returns c = let at-check = c .before .before .before in
     let s = at-check .before .before in
     let log = now (s .args .log) in
     let is-refused = sym (at-check .check .ensures) ∙ ap checked-says (c .before .why .given .1) in
-    (sym (graph-refused log is-refused), rw is-refused refl)
+    record { says = sym (graph-refused log is-refused); leaves = rw is-refused refl }
 
 returns-2 : tie.Need-returns-2
 returns-2 c = let e = c .before .before in
     let log = log-of e in
-    (ap gives (c .edges-of-log .ensures .0) ∙ sym (graph-given log (sound e)), rw (sound e) (c .edges-of-log .ensures .1))
+    record {
+      says = ap gives (c .edges-of-log .ensures .0) ∙ sym (graph-given log (sound e));
+      leaves = rw (sound e) (c .edges-of-log .ensures .1);
+    }
 
 pub graph-of-log-spec : {M : Type 1} → statement M
 graph-of-log-spec =

@@ -25,7 +25,7 @@ returns : tie.Need-returns Inv-loop μ-loop
 returns c =
     let s = c .before .before in
     sym (all-commit (now (s .args .log))
-    (λ t l. same-sets (now (s .args .log)) (s .args .named) (s .args .committed) (now (s .args .firsts)) (s .pre .0) (s .pre .1) (c .if1 .taken) t))
+    (λ t l. same-sets (now (s .args .log)) (s .args .named) (s .args .committed) (now (s .args .firsts)) (s .pre .0) (s .pre .1) (omega (arith, c .if1 .taken)) t))
 
 loop-holds : tie.Need-loop-holds Inv-loop μ-loop
 loop-holds c = (omega arith, none-zero (never-commits (now (c .before .before .args .log))))

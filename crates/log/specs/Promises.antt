@@ -1,0 +1,32 @@
+-- What the functions that answer for a log promise, one definition each, of what was asked and what was answered. The contract in src/ and
+-- the theorem that the answer is determined cite the same one.
+use Prim.Native.Nat.{ℕ}
+use mathlib.Core.Path.{_≡_}
+use mathlib.Core.List.{List}
+use Rattle.format.specs.Numbers.{checked-says}
+use Rattle.format.specs.declared.refusal.Checked.{Checked}
+use Rattle.log.specs.Refusal.{length-answer, content-answer, check-answer}
+use Rattle.log.specs.Source.{source-record, source-answer}
+use Rattle.log.specs.Numbers.{found-says, source-says}
+use Rattle.log.specs.declared.source.Found.{Found}
+use Rattle.log.specs.declared.source.Source.{Source}
+
+-- `length_answer`: numbers 1 and 2
+abbrev pub ChecksLength : List ℕ → Checked → Type 0
+ChecksLength log answer = checked-says answer ≡ length-answer log
+
+-- `content_answer`: numbers 4 to 9
+abbrev pub ChecksContent : List ℕ → Checked → Type 0
+ChecksContent log answer = checked-says answer ≡ content-answer log
+
+-- `check`: both, in that order
+abbrev pub ChecksLog : List ℕ → Checked → Type 0
+ChecksLog log answer = checked-says answer ≡ check-answer log
+
+-- `source_record`, of a record k of a log that passes
+abbrev pub FindsSource : List ℕ → ℕ → Found → Type 0
+FindsSource log k answer = found-says answer ≡ source-record log k
+
+-- `source_of_record`, of any number k
+abbrev pub TellsSource : List ℕ → ℕ → Source → Type 0
+TellsSource log k answer = source-says answer ≡ source-answer log k
