@@ -1,1 +1,2 @@
 pub mod Coding
+pub mod Promises

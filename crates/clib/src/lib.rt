@@ -1,16 +1,9 @@
 // The C face of the checker: exports on byte slices, tables and plain numbers, thin over the crates below. include/fruscalenta.h declares
 // them.
 ghost use mathlib.Core.Path.{_≡_};
-ghost use lib.ListN.{length};
-ghost use lib.Seq.{sets};
-ghost use Rattle.sets.specs.Bits.{numbers, has, in-row};
 ghost use Rattle.format.specs.Numbers.{number-of, place-of};
-ghost use Rattle.log.specs.Refusal.{check-answer};
-ghost use Rattle.log.specs.Source.{source-answer};
-ghost use Rattle.edges.specs.Reasons.{edge-answer};
-ghost use Rattle.sort.specs.Rule.{sorted, members-of, length-of};
-ghost use Rattle.verdict.specs.Verdict.{verdict-answer, answer-records, how-many};
-ghost use Rattle.clib.specs.Coding.{coded, coded-refusal, passed-value, source-value, reason-value, coded-sorted, coded-verdict};
+ghost use Rattle.clib.specs.Coding.{coded-refusal};
+ghost use Rattle.clib.specs.Promises.{ChecksInC, TellsSourceInC, TellsEdgeInC, SortsInC, JudgesInC};
 use edges::graph::Edge;
 use format::record::TRANSACTIONS;
 use format::refusal::Checked;
@@ -66,7 +59,7 @@ fn refused(r: Refusal) -> Coded
 // The check of a log. The value is 0 where the log passes.
 #[no_mangle]
 pub extern "C" fn fruscalenta_check(log: &[u8]) -> Coded
-    ensures { λ a. ⌜ a ≡ coded passed-value (check-answer (now (log .entry))) ⌝ }
+    ensures { λ a. ⌜ ChecksInC (now (log .entry)) a ⌝ }
 {
     match check(log) {
         Checked::Passed => Coded {
@@ -81,7 +74,7 @@ pub extern "C" fn fruscalenta_check(log: &[u8]) -> Coded
 // The source of record k. The value is its transaction, or NONE for a write or a commit.
 #[no_mangle]
 pub extern "C" fn fruscalenta_source_of_record(log: &[u8], k: usize) -> Coded
-    ensures { λ a. ⌜ a ≡ coded source-value (source-answer (now (log .entry)) k) ⌝ }
+    ensures { λ a. ⌜ TellsSourceInC (now (log .entry)) k a ⌝ }
 {
     match source_of_record(log, k) {
         Source::Of(t) => Coded {
@@ -101,7 +94,7 @@ pub extern "C" fn fruscalenta_source_of_record(log: &[u8], k: usize) -> Coded
 // The edge from i to j. The value is its reason, 0 where there is none.
 #[no_mangle]
 pub extern "C" fn fruscalenta_edge_between(log: &[u8], i: usize, j: usize) -> Coded
-    ensures { λ a. ⌜ a ≡ coded reason-value (edge-answer (now (log .entry)) i j) ⌝ }
+    ensures { λ a. ⌜ TellsEdgeInC (now (log .entry)) i j a ⌝ }
 {
     match edge_between(log, i, j) {
         Edge::Reason(n) => Coded {
@@ -121,8 +114,7 @@ pub extern "C" fn fruscalenta_sort(
     set: u64,
     members: &mut [u8; NUMBERS],
 ) -> CodedSorted
-    ensures { λ a. ⌜ a ≡ coded-sorted (length-of (sorted numbers (in-row (now (table .entry))) (has set))) ⌝ }
-    ensures { λ a. ⌜ now (members .exit) ≡ sets (now (members .entry)) 0 (members-of (sorted numbers (in-row (now (table .entry))) (has set))) ⌝ }
+    ensures { λ a. ⌜ SortsInC (now (table .entry)) set (now (members .entry)) a (now (members .exit)) ⌝ }
 {
     match sort(table, set, members) {
         Sorted::Line(n) => CodedSorted {
@@ -139,8 +131,7 @@ pub extern "C" fn fruscalenta_sort(
 // The verdict on a log. The answer records of a line or a cycle are written to the front of the buffer; all other bytes keep their content.
 #[no_mangle]
 pub extern "C" fn fruscalenta_verdict(log: &[u8], answer: &mut [u8]) -> CodedVerdict
-    ensures { λ a. ⌜ a ≡ coded-verdict (how-many (verdict-answer (now (log .entry)) (length (now (answer .entry))))) ⌝ }
-    ensures { λ a. ⌜ now (answer .exit) ≡ sets (now (answer .entry)) 0 (answer-records (now (log .entry)) (verdict-answer (now (log .entry)) (length (now (answer .entry))))) ⌝ }
+    ensures { λ a. ⌜ JudgesInC (now (log .entry)) (now (answer .entry)) a (now (answer .exit)) ⌝ }
 {
     match verdict(log, answer) {
         Verdict::Line(n) => CodedVerdict {

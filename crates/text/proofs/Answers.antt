@@ -16,6 +16,7 @@ use Rattle.verdict.proofs.Records.{length-pairs, line-records-are, cycle-record
 use Rattle.verdict.proofs.Written.{ordered-fits, in-front}
 use Rattle.text.specs.Text.{text-room, serial-word, cycle-word, first-line, refusal-line, record-lines, printed-answer, printed-with, printed}
 use Rattle.text.specs.Kept.{Put, Recorded, Lent}
+use Rattle.text.specs.Promises.{Prints}
 use Rattle.text.proofs.Lines.{first-short, lines-short, lines-same}
 
 -- the text of each answer
@@ -33,11 +34,14 @@ refusal-text number place answer = refl
 
 -- a text that has been put to the front of a buffer with room for it
 pub whole : {old new text : List ℕ} {r : ℕ} (bytes : List ℕ) → text ≡ bytes → Put old 0 bytes new r → length bytes ≤ text-room
-    → (r ≡ length text) × ((new ≡ sets old 0 text) × (r ≤ text-room))
-whole {old} {new} {text} {r} bytes e p l = (
-  omega (arith, p .ends, ap length e),
-  (p .written ∙ ap (sets old 0) (sym e), omega (arith, p .ends, l)),
-)
+    → Prints text old r new
+whole {old} {new} {text} {r} bytes e p l =
+    record { counted = omega (arith, p .ends, ap length e); leaves = p .written ∙ ap (sets old 0) (sym e); fits = omega (arith, p .ends, l) }
+
+-- what prints one text prints another that is the same
+pub prints-same : {old new bytes text : List ℕ} {r : ℕ} → bytes ≡ text → Prints bytes old r new → Prints text old r new
+prints-same {old} {new} {bytes} {text} {r} e p =
+    record { counted = p .counted ∙ ap length e; leaves = p .leaves ∙ ap (sets old 0) e; fits = p .fits }
 
 -- a first line and the lines of the records behind it fit
 pub text-short : (word : List ℕ) (n : ℕ) (reasons : Bool) (answer : List ℕ) → length word ≤ 8 → Recorded n answer → ((i : ℕ) → entry answer i < 256)

@@ -1,12 +1,7 @@
 // The answer as the program prints it: lines of ASCII bytes, written to the front of a buffer that is lent.
-ghost use Prim.Native.Nat.{_≤_};
-ghost use mathlib.Core.Path.{_≡_};
-ghost use lib.ListN.{length};
-ghost use lib.Seq.{sets};
 ghost use Rattle.verdict.specs.Numbers.{verdict-says};
-ghost use Rattle.verdict.specs.Verdict.{verdict-answer, answer-records};
-ghost use Rattle.text.specs.Text.{text-room, printed-answer, printed-with, printed};
 ghost use Rattle.text.specs.Kept.{Lent};
+ghost use Rattle.text.specs.Promises.{PrintsAnswer, PrintsJudged, PrintsLog};
 
 mod line;
 pub mod put;
@@ -22,9 +17,7 @@ use verdict::verdict;
 // The text of a verdict whose answer records stand in the front of `answer`, and how many bytes it has.
 pub fn answer_text(verdict: Verdict, answer: &[u8], text: &mut [u8; TEXT]) -> usize
     requires { ⌜ Lent (verdict-says verdict) (now answer) ⌝ }
-    ensures { λ r. ⌜ r ≡ length (printed-answer (verdict-says verdict) (now (answer .entry))) ⌝ }
-    ensures { λ r. ⌜ now (text .exit) ≡ sets (now (text .entry)) 0 (printed-answer (verdict-says verdict) (now (answer .entry))) ⌝ }
-    ensures { λ r. ⌜ r ≤ text-room ⌝ }
+    ensures { λ r. ⌜ PrintsAnswer verdict (now (answer .entry)) (now (text .entry)) r (now (text .exit)) ⌝ }
 {
     match verdict {
         Verdict::Line(n) => {
@@ -41,10 +34,7 @@ pub fn answer_text(verdict: Verdict, answer: &[u8], text: &mut [u8; TEXT]) -> us
 
 // The text of the verdict on a log with the answer buffer that is lent, which takes the answer records.
 pub fn judged_text(log: &[u8], answer: &mut [u8], text: &mut [u8; TEXT]) -> usize
-    ensures { λ r. ⌜ r ≡ length (printed-with (length (now (answer .entry))) (now (log .entry))) ⌝ }
-    ensures { λ r. ⌜ now (text .exit) ≡ sets (now (text .entry)) 0 (printed-with (length (now (answer .entry))) (now (log .entry))) ⌝ }
-    ensures { λ r. ⌜ now (answer .exit) ≡ sets (now (answer .entry)) 0 (answer-records (now (log .entry)) (verdict-answer (now (log .entry)) (length (now (answer .entry))))) ⌝ }
-    ensures { λ r. ⌜ r ≤ text-room ⌝ }
+    ensures { λ r. ⌜ PrintsJudged (now (log .entry)) (now (answer .entry)) (now (text .entry)) r (now (text .exit)) (now (answer .exit)) ⌝ }
 {
     let found = verdict(log, answer);
     answer_text(found, answer, text)
@@ -52,9 +42,7 @@ pub fn judged_text(log: &[u8], answer: &mut [u8], text: &mut [u8; TEXT]) -> usiz
 
 // What the program prints for a log: the verdict is given room for any answer.
 pub fn log_text(log: &[u8], text: &mut [u8; TEXT]) -> usize
-    ensures { λ r. ⌜ r ≡ length (printed (now (log .entry))) ⌝ }
-    ensures { λ r. ⌜ now (text .exit) ≡ sets (now (text .entry)) 0 (printed (now (log .entry))) ⌝ }
-    ensures { λ r. ⌜ r ≤ text-room ⌝ }
+    ensures { λ r. ⌜ PrintsLog (now (log .entry)) (now (text .entry)) r (now (text .exit)) ⌝ }
 {
     let mut answer = [0u8; MOST_ANSWER];
     judged_text(log, &mut answer, text)

@@ -14,8 +14,9 @@ use Rattle.format.proofs.Determined.{same-refusal}
 use Rattle.edges.specs.Reasons.{reason}
 use Rattle.sort.specs.Rule.{LineOrCycle, line, cycle, members-of}
 use Rattle.verdict.specs.Verdict.{record-size, entry, round-to, verdict-check, line-or-cycle, verdict-answer}
-use Rattle.verdict.specs.Verdict.{answer-records, how-many}
+use Rattle.verdict.specs.Verdict.{answer-records}
 use Rattle.verdict.specs.Numbers.{verdict-says}
+use Rattle.verdict.specs.Promises.{JudgesLog}
 use Rattle.verdict.specs.declared.answer.Verdict.{Verdict}
 use Rattle.verdict.specs.declared.answer.Verdict.the-variants.{Line, Cycle, Refused}
 use Rattle.verdict.proofs.Checks.{sound-log, enough-room, answer-given, answer-refused}
@@ -33,15 +34,10 @@ same-verdict (Refused r) (Line n) e = absurd (never-both (line n) (number-of r) 
 same-verdict (Refused r) (Cycle n) e = absurd (never-both (cycle n) (number-of r) (place-of r) e)
 same-verdict (Refused r) (Refused s) e = ap Refused (same-refusal r s (ap said-number e) (ap said-place e))
 
--- The premises below are the promises of src/lib.rt, word for word.
 -- THEOREM: any two answers that `verdict` promises for a log and a buffer are equal, and so are the buffers left
-pub verdict-determined : (log old : List ℕ) (a b : Verdict) (left right : List ℕ)
-    → verdict-says a ≡ how-many (verdict-answer log (length old))
-    → left ≡ sets old 0 (answer-records log (verdict-answer log (length old)))
-    → verdict-says b ≡ how-many (verdict-answer log (length old))
-    → right ≡ sets old 0 (answer-records log (verdict-answer log (length old)))
+pub verdict-determined : (log old : List ℕ) (a b : Verdict) (left right : List ℕ) → JudgesLog log old a left → JudgesLog log old b right
     → (a ≡ b) × (left ≡ right)
-verdict-determined log old a b left right p q r s = (same-verdict a b (p ∙ sym r), q ∙ sym s)
+verdict-determined log old a b left right p q = (same-verdict a b (p .says ∙ sym (q .says)), p .leaves ∙ sym (q .leaves))
 
 -- two bytes for each member
 pub records-long : (log : List ℕ) (o : LineOrCycle (List ℕ)) → length (answer-records log (gives o)) ≡ length (members-of o) * record-size

@@ -1,3 +1,4 @@
 pub mod Verdict
 pub mod Kept
 pub mod Numbers
+pub mod Promises

@@ -6,8 +6,9 @@ ghost use Prim.Native.Nat.{_≤_};
 ghost use Rattle.format.specs.Answer.{passed, gives};
 ghost use Rattle.format.specs.Numbers.{checked-says};
 ghost use Rattle.log.specs.Refusal.{check-answer};
-ghost use Rattle.verdict.specs.Verdict.{most-answer, verdict-check, line-or-cycle, verdict-answer, answer-records, how-many};
+ghost use Rattle.verdict.specs.Verdict.{most-answer, verdict-check, line-or-cycle, answer-records, how-many};
 ghost use Rattle.verdict.specs.Numbers.{verdict-says};
+ghost use Rattle.verdict.specs.Promises.{JudgesLog};
 
 pub mod answer;
 
@@ -72,8 +73,7 @@ fn ordered(log: &[u8], answer: &mut [u8]) -> Verdict
 // others keep their content, and a refusal writes nothing. Four passes over the records, each with a fixed number of steps for a record but
 // for the walk back from a read to its source; then the sort. Some 30 KiB are cleared, however short the log.
 pub fn verdict(log: &[u8], answer: &mut [u8]) -> Verdict
-    ensures { λ r. ⌜ verdict-says r ≡ how-many (verdict-answer (now (log .entry)) (length (now (answer .entry)))) ⌝ }
-    ensures { λ r. ⌜ now (answer .exit) ≡ sets (now (answer .entry)) 0 (answer-records (now (log .entry)) (verdict-answer (now (log .entry)) (length (now (answer .entry))))) ⌝ }
+    ensures { λ r. ⌜ JudgesLog (now (log .entry)) (now (answer .entry)) r (now (answer .exit)) ⌝ }
 {
     match checked(log, answer.len()) {
         Checked::Refused(why) => Verdict::Refused(why),

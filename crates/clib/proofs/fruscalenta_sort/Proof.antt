@@ -17,11 +17,11 @@ enum-known-n-2 c = search needs
 
 returns : tie.Need-returns
 returns c = let a = c .before .before .before in
-    (ap coded-sorted (sym (ap sorted-says (c .before .n .given .1)) ∙ a .sort .ensures .0), a .sort .ensures .1)
+    record { says = ap coded-sorted (sym (ap sorted-says (c .before .n .given .1)) ∙ a .sort .ensures .says); leaves = a .sort .ensures .leaves }
 
 returns-2 : tie.Need-returns-2
 returns-2 c = let a = c .before .before .before in
-    (ap coded-sorted (sym (ap sorted-says (c .before .n2 .given .1)) ∙ a .sort .ensures .0), a .sort .ensures .1)
+    record { says = ap coded-sorted (sym (ap sorted-says (c .before .n2 .given .1)) ∙ a .sort .ensures .says); leaves = a .sort .ensures .leaves }
 
 pub fruscalenta-sort-spec : {M : Type 1} → statement M
 fruscalenta-sort-spec = tie.close (tie.spec sort-requires enum-known-n enum-known-n-2 returns returns-2)

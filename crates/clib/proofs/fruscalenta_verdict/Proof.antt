@@ -33,7 +33,7 @@ same-length c = search needs
 returns : tie.Need-returns
 returns c =
     let a = c .before .before .before .before .before in
-    (ap coded-verdict (sym (ap verdict-says (c .before .n .given .1)) ∙ a .verdict .ensures .0), a .verdict .ensures .1)
+    record { says = ap coded-verdict (sym (ap verdict-says (c .before .n .given .1)) ∙ a .verdict .ensures .says); leaves = a .verdict .ensures .leaves }
 
 same-length-2 : tie.Need-same-length-2
 same-length-2 c = search needs
@@ -41,7 +41,7 @@ same-length-2 c = search needs
 returns-2 : tie.Need-returns-2
 returns-2 c =
     let a = c .before .before .before .before .before in
-    (ap coded-verdict (sym (ap verdict-says (c .before .n2 .given .1)) ∙ a .verdict .ensures .0), a .verdict .ensures .1)
+    record { says = ap coded-verdict (sym (ap verdict-says (c .before .n2 .given .1)) ∙ a .verdict .ensures .says); leaves = a .verdict .ensures .leaves }
 
 same-length-3 : tie.Need-same-length-3
 same-length-3 c = search needs
@@ -51,7 +51,7 @@ returns-3 c =
     let at-r = c .before .before .before in
     let a = at-r .before .before .before .before in
     let refusal = ap₂ (λ (n p : ℕ). coded-verdict (refused n p)) (c .before .number .ensures) (c .place .ensures) in
-    (refusal ∙ ap coded-verdict (sym (ap verdict-says (at-r .r .given .1)) ∙ a .verdict .ensures .0), a .verdict .ensures .1)
+    record { says = refusal ∙ ap coded-verdict (sym (ap verdict-says (at-r .r .given .1)) ∙ a .verdict .ensures .says); leaves = a .verdict .ensures .leaves }
 
 pub fruscalenta-verdict-spec : {M : Type 1} → statement M
 fruscalenta-verdict-spec =

@@ -16,8 +16,8 @@ log-text-requires c κs = search needs
 inside : (c : tie.After-log-text) → c .log-text .result ≤ length (c .log-text .last .1 .0)
 inside c =
     let said = c .log-text .ensures in
-    still-inside (replicate {A = ℕ} text-room 0) (printed (now (c .before .before .before .args .log))) (c .log-text .result) text-room (said .1 .0)
-    (length-replicate {A = ℕ} text-room 0) (said .1 .1)
+    still-inside (replicate {A = ℕ} text-room 0) (printed (now (c .before .before .before .args .log))) (c .log-text .result) text-room
+    (said .leaves) (length-replicate {A = ℕ} text-room 0) (said .fits)
 
 array-share-prefix-text : tie.Need-array-share-prefix-text
 array-share-prefix-text c = inside c

@@ -4,7 +4,7 @@ use mathlib.Core.Path.{_≡_, sym, _∙_, ap, ap₂, subst}
 use mathlib.Core.List.{List}
 use Prim.Native.Nat.{ℕ}
 use lib.ListN.{length}
-use lib.Seq.{sets, length-sets}
+use lib.Seq.{length-sets}
 use denote.Ref.{now}
 use Rattle.format.specs.Answer.{Answer}
 use Rattle.sort.specs.Rule.{LineOrCycle}
@@ -12,7 +12,7 @@ use Rattle.verdict.specs.Numbers.{verdict-says}
 use Rattle.verdict.specs.Verdict.{verdict-answer, answer-records}
 use Rattle.text.specs.Text.{printed-answer, printed-with}
 use Rattle.text.specs.Kept.{Lent}
-use Rattle.text.proofs.Answers.{lent, judged}
+use Rattle.text.proofs.Answers.{lent, judged, prints-same}
 use borrow.Author.Needs.{needs}
 use Rattle.text.proofs.judged_text.Statement.{statement}
 use Rattle.text.proofs.judged_text.Tie as tie
@@ -35,13 +35,13 @@ module _ (c : tie.After-verdict) where
   answer-of = c .verdict .last .1 .0
 
   same-room : length answer-of ≡ length old
-  same-room = ap length (c .verdict .ensures .1) ∙ length-sets old 0 (answer-records log-of (verdict-answer log-of (length old)))
+  same-room = ap length (c .verdict .ensures .leaves) ∙ length-sets old 0 (answer-records log-of (verdict-answer log-of (length old)))
 
   records-lent : Lent (verdict-says (c .verdict .result)) answer-of
-  records-lent = subst (λ (a : Answer (LineOrCycle ℕ)). Lent a answer-of) (sym (c .verdict .ensures .0)) (lent log-of old answer-of same-room)
+  records-lent = subst (λ (a : Answer (LineOrCycle ℕ)). Lent a answer-of) (sym (c .verdict .ensures .says)) (lent log-of old answer-of same-room)
 
   its-text : printed-answer (verdict-says (c .verdict .result)) answer-of ≡ printed-with (length old) log-of
-  its-text = ap₂ printed-answer (c .verdict .ensures .0) (c .verdict .ensures .1) ∙ judged log-of old
+  its-text = ap₂ printed-answer (c .verdict .ensures .says) (c .verdict .ensures .leaves) ∙ judged log-of old
 
 answer-text-requires : tie.Need-answer-text-requires
 answer-text-requires c κs = records-lent (c .before .before .before .before)
@@ -52,10 +52,7 @@ same-length c = search needs
 returns : tie.Need-returns
 returns c =
     let v = c .before .before .before .before .before in
-    let said = c .answer-text .ensures in (
-      said .0 ∙ ap length (its-text v),
-      (said .1 .0 ∙ ap (sets (now (start v .args .text)) 0) (its-text v), (v .verdict .ensures .1, said .1 .1)),
-    )
+    record { prints = prints-same (its-text v) (c .answer-text .ensures); keeps = v .verdict .ensures .leaves }
 
 pub judged-text-spec : {M : Type 1} → statement M
 judged-text-spec = tie.close (tie.spec verdict-requires answer-text-requires same-length returns)

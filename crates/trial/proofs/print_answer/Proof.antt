@@ -15,10 +15,10 @@ judged-text-requires c κs = search needs
 
 inside : (c : tie.After-judged-text) → c .judged-text .result ≤ length (c .judged-text .last .1 .1 .0)
 inside c =
-    let said = c .judged-text .ensures in
+    let said = c .judged-text .ensures .prints in
     let a = c .before .before .before .before .before .args in
     still-inside (replicate {A = ℕ} text-room 0) (printed-with (length (now (a .answer))) (now (a .log))) (c .judged-text .result) text-room
-    (said .1 .0) (length-replicate {A = ℕ} text-room 0) (said .1 .1 .1)
+    (said .leaves) (length-replicate {A = ℕ} text-room 0) (said .fits)
 
 array-share-prefix-text : tie.Need-array-share-prefix-text
 array-share-prefix-text c = inside (c .before .before)

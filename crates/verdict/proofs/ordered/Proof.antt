@@ -84,7 +84,7 @@ module _ (c : tie.After-sort) where
   is-sorted = sorted-is log-of sound table-of-all (at-edges .edges-by-reason .result) is-table (at-edges .edges-by-reason .ensures .0)
 
   says : sorted-says (c .sort .result) ≡ length-of (line-or-cycle log-of)
-  says = c .sort .ensures .0 ∙ ap length-of is-sorted
+  says = c .sort .ensures .says ∙ ap length-of is-sorted
 
   -- the members, in a buffer of their own
   abbrev blank : List ℕ
@@ -94,7 +94,7 @@ module _ (c : tie.After-sort) where
   buffer = c .sort .last .1 .1 .0
 
   in-buffer : buffer ≡ sets blank 0 (members-of (line-or-cycle log-of))
-  in-buffer = c .sort .ensures .1 ∙ ap (λ (o : LineOrCycle (List ℕ)). sets blank 0 (members-of o)) is-sorted
+  in-buffer = c .sort .ensures .leaves ∙ ap (λ (o : LineOrCycle (List ℕ)). sets blank 0 (members-of o)) is-sorted
 
   -- n of them, which there is room for
   fits : (n : ℕ) → n ≡ length (members-of (line-or-cycle log-of)) → n ≤ transactions

@@ -58,7 +58,7 @@ returns c =
     let s = at-check .before .before .before in
     let refusal = sym (at-check .checked .ensures) ∙ ap checked-says (c .before .why .given .1) in
     let is = answer-refused (log-of s) (length (old s)) refusal in
-    (sym (ap how-many is), sym (ap (records-after s) is))
+    record { says = sym (ap how-many is); leaves = sym (ap (records-after s) is) }
 
 same-length : tie.Need-same-length
 same-length c = search needs
@@ -68,7 +68,7 @@ returns-2 c =
     let e = c .before .before .before .before in
     let s = start e in
     let said = c .before .before .ordered .ensures in
-    (said .0 ∙ sym (ap how-many (is-given e)), said .1 ∙ sym (ap (records-after s) (is-given e)))
+    record { says = said .0 ∙ sym (ap how-many (is-given e)); leaves = said .1 ∙ sym (ap (records-after s) (is-given e)) }
 
 pub verdict-spec : {M : Type 1} → statement M
 verdict-spec =
