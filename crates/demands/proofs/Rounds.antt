@@ -1,6 +1,6 @@
 -- A cycle's edges, place by place: each member has one to the next, and the last to the first; and an edge has a true reason.
 -- Assumes nothing.
-use Prim.Native.Nat.{ℕ, zero, suc, _+_, _<_}
+use Prim.Native.Nat.{ℕ, zero, suc, _+_, _<_, _≤_}
 use native.Mathlib.Omega.{arith}
 use native.Mathlib.Decide.{decLt}
 use native.Mathlib.Numerals.{add-one}
@@ -19,7 +19,7 @@ use Rattle.edges.proofs.Graphs.{reason-plain}
 use Rattle.sort.specs.Lines.{Linked}
 use Rattle.verdict.specs.Verdict.{entry, round-to}
 use Rattle.verdict.proofs.Records.{round-next, round-back}
-use Rattle.demands.specs.Reasons.{TrueReason, by-conflict, by-write-order, by-read-before}
+use Rattle.demands.specs.Reasons.{Applies, by-conflict, by-write-order, by-read-before, TrueReason}
 
 module _ (r : ℕ → ℕ → Bool) where
   linked-at : (ys : List ℕ) (k : ℕ) → Linked r ys → suc k < length ys → r (entry ys k) (entry ys (suc k)) ≡ true
@@ -60,8 +60,27 @@ module _ (r : ℕ → ℕ → Bool) where
           ∙ front xs (omega (arith, m)) .0
           ∙ ap (entry xs) (sym (round-back (length xs) k (omega (arith, n)))))
 
--- the reason of an edge is a true one
 module _ (log : List ℕ) (i j : ℕ) where
+  none-applies-below : (n : ℕ) → n ≤ 3 → (1 < n → conflict log i j ≡ false) → (2 < n → write-order log i j ≡ false)
+      → (m : ℕ) → m < n → Applies log i j m → ⊥
+  none-applies-below n h f g m l (by-conflict p) = clash (conflict log i j) p (f l)
+  none-applies-below n h f g m l (by-write-order p) = clash (write-order log i j) p (g l)
+  none-applies-below n h f g m l (by-read-before p) = omega (arith, l, h)
+
+  lowest-reason : (n : ℕ) → n ≤ 3 → (1 < n → conflict log i j ≡ false) → (2 < n → write-order log i j ≡ false) → Applies log i j n
+      → TrueReason log i j n
+  lowest-reason n h f g a = record { applies = a; none-lower = λ m l b. none-applies-below n h f g m (omega (arith, l)) b }
+
+  -- THEOREM: an edge has one true reason
+  pub one-reason : (m n : ℕ) → TrueReason log i j m → TrueReason log i j n → m ≡ n
+  one-reason m n a b = go (decLt m n) (decLt n m)
+    where
+      go : Dec (m < n) → Dec (n < m) → m ≡ n
+      go (yes l) d = absurd (b .none-lower m (omega (arith, l)) (a .applies))
+      go (no l) (yes k) = absurd (a .none-lower n (omega (arith, k)) (b .applies))
+      go (no l) (no k) = omega (arith, l, k)
+
+  -- and it is the one that the definitions report
   pub edge-has-reason : edge log i j ≡ true → TrueReason log i j (reason log i j)
   edge-has-reason h = subst (TrueReason log i j) is-lowest (go (conflict log i j) refl (write-order log i j) refl (read-before log i j) refl)
     where
@@ -73,9 +92,9 @@ module _ (log : List ℕ) (i j : ℕ) where
 
       go : (a : Bool) → conflict log i j ≡ a → (b : Bool) → write-order log i j ≡ b → (c : Bool) → read-before log i j ≡ c
           → TrueReason log i j (lowest a b c)
-      go true p b q c s = by-conflict p
-      go false p true q c s = by-write-order p q
-      go false p false q true s = by-read-before p q s
+      go true p b q c s = lowest-reason 1 (omega arith) (λ l. absurd (omega (arith, l))) (λ l. absurd (omega (arith, l))) (by-conflict p)
+      go false p true q c s = lowest-reason 2 (omega arith) (λ l. p) (λ l. absurd (omega (arith, l))) (by-write-order q)
+      go false p false q true s = lowest-reason 3 (omega arith) (λ l. p) (λ l. q) (by-read-before s)
       go false p false q false s =
           absurd
           (⊎-elim (λ (w : conflict log i j ≡ true). clash (conflict log i j) w p)

@@ -17,9 +17,9 @@ use Rattle.edges.specs.Reasons.{edge}
 use Rattle.edges.specs.Numbers.{graph-says}
 use Rattle.edges.specs.Chapter.{serialization-edge, InducesWriteOrder, RDSG}
 use Rattle.edges.specs.declared.graph.Graph.{Graph}
-use Rattle.sort.specs.Rule.{LineOrCycle, line, cycle}
+use Rattle.sort.specs.Rule.{LineOrCycle, line, cycle, sorted, members-of, length-of}
 use Rattle.sort.specs.Lines.{stands-before, Cycle, FromLowest}
-use Rattle.verdict.specs.Verdict.{record-size, most-answer, entry, round-to, line-or-cycle, line-records, cycle-records}
+use Rattle.verdict.specs.Verdict.{record-size, most-answer, entry, round-to, line-or-cycle, line-records, cycle-records, answer-records}
 use Rattle.verdict.specs.Numbers.{verdict-says}
 use Rattle.verdict.specs.declared.answer.Verdict.{Verdict}
 use Rattle.demands.specs.Serial.{SerialLine, SmallestSerial, LastWritesKept}
@@ -41,9 +41,14 @@ module _ (log old : List ℕ) (v : Verdict) (new : List ℕ) where
     -- "A refusal writes nothing to the answer buffer."
     pub refusal-writes-nothing : (n p : ℕ) → verdict-says v ≡ refused n p → new ≡ old
 
-  -- DEMAND 2. "Its graph is the replicated-data serialization graph .. no edge of that rule is missing and none is added." Every edge counts
-  -- for a line, and a cycle is made of edges.
+  -- DEMAND 2. "Its graph is the replicated-data serialization graph .. no edge of that rule is missing and none is added."
   pub record Demand2 : Type 0 where
+    -- What is given, and every byte of it, is document 01's line or cycle of the graph that has just these edges, between just the
+    -- transactions in the log. So an edge that is left out or added shows wherever it makes a difference to a line or a cycle.
+    pub of-this-graph : (o : LineOrCycle ℕ) → verdict-says v ≡ gives o
+        → let given = sorted transactions (edge log) (in-log log) in
+        (o ≡ length-of given) × (new ≡ answer-records log (gives given) ++ drop (length (members-of given) * record-size) old)
+    -- Without the rule: a line keeps every edge, and a cycle is made of edges.
     pub line-keeps-every-edge : (n : ℕ) → verdict-says v ≡ gives (line n)
         → (xs : List ℕ) × (new ≡ line-records xs ++ drop (n * record-size) old) × ((i j : ℕ) → edge log i j ≡ true → stands-before xs i j ≡ true)
     -- byte 2k is a member of the cycle, with an edge to the member of the next record, and byte 2k + 1 is that edge's true, lowest reason
@@ -90,7 +95,11 @@ module _ (log old : List ℕ) (v : Verdict) (new : List ℕ) where
     pub line-given : (n : ℕ) → verdict-says v ≡ gives (line n) → LineGiven n
     pub cycle-given : (n : ℕ) → verdict-says v ≡ gives (cycle n) → CycleGiven n
 
--- Demand 2 of the graph by itself: bit j of number i is 1 exactly for an edge from i to j, and bit t of the set exactly where t is in the log
-pub record GraphExactly (log : List ℕ) (g : Graph) (table : List ℕ) : Type 0 where
-  pub edges-exactly : (set : ℕ) → graph-says g ≡ gives set → (i j : ℕ) → in-row table i j ≡ edge log i j
+-- Demand 2 of the graph by itself: it is given, and refused, exactly where the table of refusals says (number 3 belongs to the verdict); where
+-- it is given, bit j of number i is 1 exactly for an edge from i to j, and bit t of the set exactly where t is in the log
+pub record GraphExactly (log old : List ℕ) (g : Graph) (new : List ℕ) : Type 0 where
+  pub given-when : ((set : ℕ) × (graph-says g ≡ gives set)) ↔ NothingApplies log
+  pub refused-when : (n p : ℕ) → graph-says g ≡ refused n p ↔ Given log n p
+  pub refusal-leaves-the-table : (n p : ℕ) → graph-says g ≡ refused n p → new ≡ old
+  pub edges-exactly : (set : ℕ) → graph-says g ≡ gives set → (i j : ℕ) → in-row new i j ≡ edge log i j
   pub transactions-exactly : (set : ℕ) → graph-says g ≡ gives set → (t : ℕ) → has set t ≡ in-log log t

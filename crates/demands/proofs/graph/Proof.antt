@@ -11,9 +11,8 @@ graph-of-log-requires c κs = search needs
 returns : tie.Need-returns
 returns c =
     let s = c .before .before .before in
-    let said = c .graph-of-log .ensures in
-    let exactly = graph-exactly (now (s .args .log)) (c .graph-of-log .result) (now (s .args .table)) (c .graph-of-log .last .1 .0) (said .0) (said .1) in
-    (said .0, (said .1, exactly))
+    let promised = c .graph-of-log .ensures in
+    (promised, graph-exactly (now (s .args .log)) (now (s .args .table)) (c .graph-of-log .result) (c .graph-of-log .last .1 .0) promised)
 
 pub graph-spec : {M : Type 1} → statement M
 graph-spec = tie.close (tie.spec graph-of-log-requires returns)

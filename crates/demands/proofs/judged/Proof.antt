@@ -20,9 +20,8 @@ returns c =
     let old = now (s .args .answer) in
     let v = a .verdict .result in
     let new = a .verdict .last .1 .0 in
-    let says = a .verdict .ensures .0 in
-    let leaves = a .verdict .ensures .1 in
-    (says, (leaves, (demand-1 log old v new says leaves, (demand-2 log old v new says leaves, demand-3 log old v new says leaves))))
+    let promised = a .verdict .ensures in
+    (promised, (demand-1 log old v new promised, (demand-2 log old v new promised, demand-3 log old v new promised)))
 
 pub judged-spec : {M : Type 1} → statement M
 judged-spec = tie.close (tie.spec verdict-requires same-length returns)
