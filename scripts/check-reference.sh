@@ -1,0 +1,166 @@
+#!/bin/bash
+# Holds the examples of docs/LOGS.md to the checker. It reads them from the page:
+#   rows      a cell that is an answer, as `refused 6 2` or `cycle 2: 1 1, 2 3`, stands behind the cell of its example; where the first
+#             cell of the row is a number, it is the refusal's. An example is a history, (empty), or one of
+#                 repeat 3 c0 c1    a history that has the operation so many times, and then the rest
+#                 bytes 3 0 0       the bytes of a log
+#                 call ..           a call of the library, where log is the 4 bytes of c0 and answer is a buffer
+#   blocks    a line `    $ ./logcheck --text 'HISTORY'`, and below it what is printed
+#   dump      rows of a record's number, its 4 bytes in hexadecimal, its operation, its first byte's place, and its copy number or none
+# What is printed must be the same; the exit status is not looked at. The calls want target/staticlib/libclib.a. It prints a line for each
+# failure, and `N passed, M failed` at the end.
+set -u
+cd "$(dirname "$0")/.." || exit 1
+. scripts/x86-64.sh
+
+page=docs/LOGS.md
+passed=0
+failed=0
+room=$(mktemp -d) || exit 1
+trap 'rm -rf "$room"' EXIT
+compiler=x86_64-linux-gnu-gcc
+[ "$(uname -m)" != x86_64 ] || compiler=$(command -v gcc || command -v cc)
+
+# Counts one check.
+count() { # WHAT STATUS
+    if [ "$2" -eq 0 ]; then
+        passed=$((passed + 1))
+    else
+        failed=$((failed + 1))
+        echo "failed: $1"
+    fi
+}
+
+check() { # WHAT COMMAND ..
+    local what=$1
+    shift
+    "$@"
+    count "$what" $?
+}
+
+# The examples of the page: a line each, of its place in the page, the row's first cell (or -), the example and the answer on one line.
+examples() {
+    awk -v OFS='\t' '
+        function end_block() { if (at) print at, "-", "`" history "`", "`" answer "`"; at = 0 }
+        /^    \$ / { end_block(); at = FNR; answer = ""; split($0, part, "\047"); history = part[2]; next }
+        /^    / && at { answer = answer (answer == "" ? "" : answer ~ /:/ ? ", " : ": ") substr($0, 5); next }
+        { end_block() }
+        /^\|/ {
+            cells = split($0, cell, / *\| */)
+            for (i = 3; i < cells; i++)
+                if (cell[i] ~ /^`(serial|cycle|refused) [0-9]/) print FNR, cell[2], cell[i - 1], cell[i]
+        }
+        END { end_block() }' "$page"
+}
+
+# The rows of the dump: record, bytes, operation, first byte, copy number.
+dump_rows() {
+    awk -v FS=' *\\| *' -v OFS='\t' '$3 ~ /^`[0-9a-f ]+`$/ && length($3) == 13 { gsub(/`/, ""); print $2, $3, $4, $5, $6 }' "$page"
+}
+
+# What a call of the library answers.
+called() { # CALL
+    local library=target/staticlib/libclib.a
+    if [ ! -e "$library" ]; then
+        echo "$library is not there (rt staticlib clib makes it)" >&2
+        return
+    fi
+    cat >"$room/call.c" <<END_OF_C
+#include <stdio.h>
+#include "fruscalenta.h"
+int main(void) {
+    uint8_t log[] = {3, 0, 0, 0}, answer[FRUSCALENTA_ROOM];
+    (void)log, (void)answer;
+    printf("refused %d %d\n", (int)$1.number, (int)$1.place);
+}
+END_OF_C
+    "$compiler" -std=c99 -Iinclude "$room/call.c" "$library" -o "$room/call" && x86_run "$room/call"
+}
+
+# What an example answers.
+answer_to() { # EXAMPLE
+    local times operation rest
+    case $1 in
+    '(empty)') ./logcheck --text '' ;;
+    repeat\ *)
+        read -r _ times operation rest <<<"$1"
+        ./logcheck --text "$(printf "%.0s$operation " $(seq "$times"))$rest"
+        ;;
+    bytes\ *)
+        # shellcheck disable=SC2046,SC2059,SC2086
+        printf "$(printf '\\%03o' ${1#bytes })" >"$room/log"
+        ./logcheck "$room/log"
+        ;;
+    call\ *) called "${1#call }" ;;
+    *) ./logcheck --text "$1" ;;
+    esac
+}
+
+check_example() { # PLACE FIRST-CELL EXAMPLE ANSWER
+    local example=${3#\`} answer=${4#\`} what="$page, line $1: $3"
+    example=${example%\`}
+    answer=${answer%\`}
+    if [[ "\`$example\`" != "$3" || "\`$answer\`" != "$4" || $example == *\`* ]]; then
+        count "$what is no example, or $4 no answer, in backquotes" 1
+        return
+    fi
+    if [[ $2 =~ ^[0-9]+$ && $answer != "refused $2 "* ]]; then
+        count "$what stands in the row of $2, and its answer is $answer" 1
+        return
+    fi
+    sed 's/: /\n/; s/, /\n/g' <<<"$answer" >"$room/wanted"
+    answer_to "$example" >"$room/out" 2>"$room/err"
+    what+=": not $answer but $(head -c 200 "$room/out" | tr '\n' ' ')$(tail -n 1 "$room/err")"
+    check "$what" cmp -s "$room/wanted" "$room/out"
+}
+
+# The dump's bytes are the log of its operations, whichever way the program gets them, and its numbers are true.
+check_dump() {
+    local record bytes operation from copy wanted history='' k=0
+    : >"$room/dump"
+    while IFS=$'\t' read -r record bytes operation from copy; do
+        history+="$operation "
+        # shellcheck disable=SC2059
+        printf "\\x${bytes// /\\x}" >>"$room/dump"
+        wanted=none
+        [ "${bytes:0:2}" = 03 ] || wanted=$((16#${bytes:6:2} * 16 + 16#${bytes:9:2}))
+        check "$page, record $record of the dump: not $k, from $((4 * k)), copy $wanted" \
+            [ "$record $from $copy" = "$k $((4 * k)) $wanted" ]
+        k=$((k + 1))
+    done < <(dump_rows)
+    check "$page has no dump" [ "$k" -gt 0 ]
+    check "$page, the dump: its history has other bytes" cmp -s "$room/dump" <(scripts/log-from-text.sh "$history")
+    check "$page, the dump: its bytes and its history have different answers" \
+        [ "$(./logcheck "$room/dump" 2>&1)" = "$(./logcheck --text "$history" 2>&1)" ]
+}
+
+# Nothing was overlooked, every refusal has its row, and every reason an answer that shows it.
+check_whole() {
+    local number reason
+    check "$page: a line with \$ in front that is no ./logcheck --text" \
+        [ "$(grep -c '^    \$ ' "$page")" -eq "$(grep -c "^    \\\$ ./logcheck --text '[^']*'\$" "$page")" ]
+    # shellcheck disable=SC2016
+    check "$page: an answer that stands in no row of an example" \
+        [ "$(grep -o '`\(serial\|cycle\|refused\) [0-9][^`]*`' "$page" | wc -l)" -eq "$(grep -vc "$(printf '\t-\t')" "$room/examples")" ]
+    check "$page: no block with an example" grep -q "$(printf '\t-\t')" "$room/examples"
+    for number in {1..10}; do
+        check "$page: no row for number $number" grep -q "$(printf '\t%s\t.*\t`refused %s ' "$number" "$number")" "$room/examples"
+    done
+    for reason in 1 2 3; do
+        check "$page: no cycle that shows reason $reason" grep -q "\`cycle.*[0-9] ${reason}[,\`]" "$room/examples"
+    done
+}
+
+if [ "$(./logcheck </dev/null)" != 'serial 0' ]; then # builds it, where that is needed
+    echo 'failed: ./logcheck does not run'
+    echo '0 passed, 1 failed'
+    exit 1
+fi
+examples >"$room/examples"
+while IFS=$'\t' read -r place first example answer <&3; do
+    check_example "$place" "$first" "$example" "$answer"
+done 3<"$room/examples"
+check_dump
+check_whole
+echo "$passed passed, $failed failed"
+[ "$failed" -eq 0 ] && [ "$passed" -gt 0 ]
