@@ -1,4 +1,5 @@
-/* The C face of the checker of replicated logs. Link libclib.a, which `rt staticlib clib` makes (x86-64 Linux).
+/* The C face of the checker of replicated logs. Link libclib.a, which `rt staticlib clib` makes (x86-64 Linux). docs/LOGS.md says what a
+ * log is, and when each refusal is given.
  *
  * Every log of any length and content, and every table of edges with every set, gets an answer. Nothing is allocated, and nothing is kept
  * between calls. Nothing is asked of a caller but that the pointers are good: log points at len readable bytes, and is not null, also where
@@ -14,9 +15,9 @@
 extern "C" {
 #endif
 
-/* A verdict in numbers. Where number is 0 nothing was refused: cycle is 0 for a serial line and 1 for a cycle, and length is how many
- * transactions it has. Else number and place are those of document 01's table of refusals, places counted in records from 0, and cycle and
- * length are 0. */
+/* A verdict in numbers. Where number is 0 nothing was refused, place is 0, cycle is 0 for a serial line and 1 for a cycle, and length is
+ * how many transactions it has. Else number and place are those of the table of refusals in docs/LOGS.md, places counted in records from
+ * 0, and cycle and length are 0. */
 struct fruscalenta_judged {
     uint64_t number;
     uint64_t place;
@@ -24,7 +25,8 @@ struct fruscalenta_judged {
     uint64_t length;
 };
 
-/* The room for answer records that every log's answer fits into, in bytes; less is refused with number 3. */
+/* The room for answer records that every log's answer fits into, in bytes. Less is refused with number 3, but 1 and 2 come before it: a log
+ * that is too long, or ragged (no multiple of 4 bytes), is refused with these also where the room is too short. */
 #define FRUSCALENTA_ROOM 128
 
 /* The verdict on a log: numbers 1 to 9, or a serial line or a cycle. Its answer records, 2 bytes each, are written to the first 2 x length
@@ -32,8 +34,8 @@ struct fruscalenta_judged {
  * before) of its edge to the next, the last one's to the first. All other bytes keep their content, and after a refusal all do. */
 struct fruscalenta_judged fruscalenta_verdict(const uint8_t *log, size_t len, uint8_t *answer, size_t room);
 
-/* An answer in numbers. Where number is 0 nothing was refused, and value is what was asked for. Else number and place are those
- * of document 01's table of refusals, places counted in records from 0, and value is 0. */
+/* An answer in numbers. Where number is 0 nothing was refused, place is 0, and value is what was asked for. Else number and place are those
+ * of the table of refusals in docs/LOGS.md, places counted in records from 0, and value is 0. */
 struct fruscalenta_answer {
     uint64_t number;
     uint64_t place;
@@ -60,9 +62,9 @@ struct fruscalenta_sorted {
 };
 
 /* The sort of a table of edges, without a log: bit j of table[i] is the edge from i to j, and bit t of set says that t is in the set. The
- * answer is the smallest line of the set's transactions, read from the left, that keeps every edge; or, where there is none, document 01's
- * cycle, written along the edges from its lowest number. Edges from a transaction to itself, and to or from transactions outside the set,
- * are ignored. The transactions are written to the first length bytes of members, and all others keep their content. */
+ * answer is the smallest line of the set's transactions, read from the left, that keeps every edge; or, where there is none, the cycle of
+ * docs/LOGS.md, written along the edges from its lowest number. Edges from a transaction to itself, and to or from transactions outside the
+ * set, are ignored. The transactions are written to the first length bytes of members, and all others keep their content. */
 struct fruscalenta_sorted fruscalenta_sort(const uint64_t table[64], uint64_t set, uint8_t members[64]);
 
 #ifdef __cplusplus
