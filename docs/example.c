@@ -1,6 +1,11 @@
-/* A call of the library from C: the verdict on history H1, w0[xA] w0[xB] w0[yC] c0 r1[yC] w1[xA] c1 r2[xB] w2[yC] c2, and one question about it.
+/* A call of the library from C: the verdict on history H1, w0[xA] w0[xB] w0[yC] c0 r1[yC] w1[xA] c1 r2[xB] w2[yC] c2, and one question
+ * about it. This builds and runs it, on any machine:
  *
- *     rt staticlib clib && gcc -Iinclude docs/example.c target/staticlib/libclib.a -o example
+ *     scripts/example.sh c
+ *
+ * In a build of your own, on x86-64, with the library that `rt staticlib clib` makes:
+ *
+ *     gcc -Iinclude docs/example.c target/staticlib/libclib.a -o target/example-c
  *
  * It prints, and scripts/check-examples.sh holds it to that:
  *
@@ -18,7 +23,7 @@ int main(void) {
     /* Records of 4 bytes: kind (1 read, 2 write, 3 commit), transaction, item, site. */
     const uint8_t h1[] = {2, 0, 0, 0, 2, 0, 0, 1, 2, 0, 1, 2, 3, 0, 0, 0, 1, 1, 1, 2,
                           2, 1, 0, 0, 3, 1, 0, 0, 1, 2, 0, 1, 2, 2, 1, 2, 3, 2, 0, 0};
-    uint8_t answer[128]; /* a shorter one is refused: number 3 */
+    uint8_t answer[FRUSCALENTA_ROOM]; /* a shorter one is refused: number 3 */
     struct fruscalenta_judged judged = fruscalenta_verdict(h1, sizeof h1, answer, sizeof answer);
 
     if (judged.number != 0) {

@@ -1,7 +1,11 @@
 //! A call of the library from Rust: the verdict on history H1, and one question about it. H1 is
-//! w0[xA] w0[xB] w0[yC] c0 r1[yC] w1[xA] c1 r2[xB] w2[yC] c2.
+//! w0[xA] w0[xB] w0[yC] c0 r1[yC] w1[xA] c1 r2[xB] w2[yC] c2. This builds and runs it, on any machine:
 //!
-//!     rt staticlib clib && rustc --edition 2021 -L target/staticlib -l static=clib docs/example.rs
+//!     scripts/example.sh rs
+//!
+//! In a build of your own, on x86-64, with the library that `rt staticlib clib` makes:
+//!
+//!     rustc --edition 2021 -L target/staticlib -l static=clib docs/example.rs -o target/example-rs
 //!
 //! It prints, and scripts/check-examples.sh holds it to that:
 //!

@@ -1,52 +1,54 @@
 #!/bin/bash
-# Builds docs/example.c and docs/example.rs for x86-64 over the static library, runs them, and holds what they print to the lines with a `>` in
-# their own first comment. It prints a line for each failure, and `N passed, M failed` at the end.
+# Holds docs/example.c and docs/example.rs to their own first comments: to the lines with a `>`, which are what they print; to the command
+# that builds and runs them; and to the compiler's line for who links the library in a build of their own. It prints a line for each
+# failure, and `N passed, M failed` at the end.
 set -u
 cd "$(dirname "$0")/.." || exit 1
 . scripts/x86-64.sh
+. scripts/x86-c.sh
+. scripts/count.sh
 
-library=target/staticlib
-passed=0
-failed=0
-room=$(mktemp -d) || exit 1
-trap 'rm -rf "$room"' EXIT
-
-if [ "$(uname -m)" = x86_64 ]; then
-    compiler=$(command -v gcc || command -v cc)
-    rust=(rustc)
-else
-    compiler=x86_64-linux-gnu-gcc
-    rust=(/usr/bin/rustc -C linker="$compiler") # x86_cargo's
-fi
-
-build_c() { "$compiler" -std=c99 -Wall -Wextra -Werror -Iinclude docs/example.c "$library/libclib.a" -o "$room/c"; }
-build_rs() { "${rust[@]}" --edition 2021 --target "$x86_target" -D warnings -L "$library" -l static=clib docs/example.rs -o "$room/rs"; }
-
-# Builds an example and compares what it prints.
-check() { # ENDING
-    sed -n 's/^\( \*\|\/\/!\)   > //p' "docs/example.$1" >"$room/wanted"
-    if ! "build_$1" >"$room/said" 2>&1; then
-        cat "$room/said"
-        echo "failed: docs/example.$1 is not built"
-    elif ! x86_run "$room/$1" >"$room/said" 2>&1; then
-        cat "$room/said"
-        echo "failed: docs/example.$1 does not run to its end"
-    elif [ ! -s "$room/wanted" ] || ! diff "$room/wanted" "$room/said"; then
-        echo "failed: docs/example.$1 prints other lines than its comment says"
-    else
-        passed=$((passed + 1))
-        return
-    fi
-    failed=$((failed + 1))
+# What stands behind this front in the lines of an example's first comment.
+comment() { # ENDING FRONT
+    sed -n "s#^\( \*\|//!\)$2##p" "docs/example.$1"
 }
 
-if [ ! -e "$library/libclib.a" ]; then
-    echo "failed: $library/libclib.a is not there (rt staticlib clib makes it)"
-    echo '0 passed, 1 failed'
-    exit 1
-fi
-x86_setup || failed=$((failed + 1))
-check c
-check rs
-echo "$passed passed, $failed failed"
-[ "$failed" -eq 0 ]
+# A command prints the comment's lines, and nothing else.
+prints() { # ENDING COMMAND ..
+    comment "$1" '   > ' >"$room/wanted"
+    "${@:2}" >"$room/printed" && [ -s "$room/wanted" ] && diff "$room/wanted" "$room/printed"
+}
+
+# The comment's command.
+by_command() { # ENDING
+    local argument
+    argument=$(comment "$1" '     scripts/example.sh ')
+    [ "$argument" = "$1" ] && prints "$1" scripts/example.sh "$argument"
+}
+
+# The comment's compiler line, with the compiler for x86-64.
+by_compiler() { # ENDING NAME-IN-THE-LINE COMPILER
+    local words
+    read -ra words <<<"$(comment "$1" "     $2 ")"
+    rm -f "target/example-$1"
+    "$3" "${words[@]}" && prints "$1" x86_run "target/example-$1"
+}
+
+# A wrong call has status 2, and prints one line.
+refused() { # ARGUMENTS ..
+    scripts/example.sh "$@" >"$room/printed" 2>&1
+    [ $? -eq 2 ] && [ "$(wc -l <"$room/printed")" -eq 1 ]
+}
+
+before=$(ls -A)
+check 'the tools for x86-64 are not there' x86_setup
+check 'there is no library to link' x86_library
+check 'docs/example.c, by the command of its comment' by_command c
+check 'docs/example.rs, by the command of its comment' by_command rs
+check 'docs/example.c, by the compiler line of its comment' by_compiler c gcc x86_cc
+check 'docs/example.rs, by the compiler line of its comment' by_compiler rs rustc x86_rustc
+check 'scripts/example.sh without an argument' refused
+check 'scripts/example.sh with another ending' refused py
+check 'scripts/example.sh with two arguments' refused c rs
+check 'the examples leave a file in the root' [ "$before" = "$(ls -A)" ]
+counts
