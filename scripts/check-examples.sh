@@ -40,9 +40,9 @@ refused() { # ARGUMENTS ..
     [ $? -eq 2 ] && [ "$(wc -l <"$room/printed")" -eq 1 ]
 }
 
-before=$(ls -A)
 check 'the tools for x86-64 are not there' x86_setup
 check 'there is no library to link' x86_library
+before=$(ls -A)
 check 'docs/example.c, by the command of its comment' by_command c
 check 'docs/example.rs, by the command of its comment' by_command rs
 check 'docs/example.c, by the compiler line of its comment' by_compiler c gcc x86_cc

@@ -77,7 +77,7 @@ run_program() {
     x86_run "$room/program" >"$room/printed"
     status=$?
     read -r good bad <<<"$(sed -n '$s/^\([0-9]*\) passed, \([0-9]*\) failed$/\1 \2/p' "$room/printed")"
-    sed '$d' "$room/printed"
+    grep -v ' passed, ' "$room/printed"
     passed=$((passed + good))
     failed=$((failed + bad))
     if [ -z "$bad" ] || [ $((status == 0)) -ne $((bad == 0)) ]; then

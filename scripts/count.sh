@@ -24,7 +24,7 @@ check() { # WHAT COMMAND ..
     shift
     "$@" >"$room/said" 2>&1
     status=$?
-    [ "$status" -eq 0 ] || cat "$room/said"
+    [ "$status" -eq 0 ] || sed 's/^/    /' "$room/said" # a count in it is not to be taken for this script's
     count "$what" "$status"
 }
 
