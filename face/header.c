@@ -271,8 +271,10 @@ static void check_call(const struct call *call, uint64_t more) {
     begin("the calling convention");
     calling("%s with more arguments, each %" PRIu64, call->name, more);
     returned = ((in_memory *)call->function)(got, given.bytes, given.length, rest[0], rest[1], rest[2], rest[3], rest[4]);
+    if (returned != got)
+        wrong("does not give back the address of the struct");
     for (size_t at = 0; at < COUNT(got); at++)
-        if (returned != got || got[at] != wanted[at])
+        if (got[at] != wanted[at])
             wrong("number %zu of the struct's memory is %" PRIu64 ", wanted %" PRIu64, at, got[at], wanted[at]);
     end();
 }
