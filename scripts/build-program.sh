@@ -1,0 +1,93 @@
+# Proves and builds the release program where that is needed. To be sourced by ./logcheck, whose fail, say, quoted and run_program it
+# calls, with the repository's folder as the working folder; gives
+#   make_program     sets `program` to the program of the sources as they are now, and builds it where it is not there
+# A program is put in place by a rename once it was proved, built and tried, so nobody runs half of one. Its name has a sum over its
+# sources: it is never that of other sources, and no clock plays a part.
+# shellcheck shell=bash
+. scripts/lock.sh
+
+# Sets `crates` to those of the repository that the program is made of, and `program` to where the program stands once it is built.
+locate_program() {
+    local crate sum
+    crates=()
+    for crate in $(sed -n 's/^logcheck://p' crates.txt 2>/dev/null) logcheck; do
+        if [ -d "crates/$crate" ]; then crates+=("$crate"); fi # the others are the kit's
+    done
+    sum=$(find crates.txt "${crates[@]/#/crates/}" -name must-fail -prune -o -type f -exec sha256sum {} + 2>/dev/null | sort | sha256sum)
+    program=target/command/logcheck-${sum:0:16}
+}
+
+make_program() {
+    locate_program
+    [ ! -x "$program" ] || return 0
+    command -v rt >/dev/null || fail 'the program has to be built, and the Rattle kit (rt) is not on this machine'
+    take_lock logcheck
+    locate_program
+    [ -x "$program" ] || build_program # unless the one before has built it
+    free_lock
+}
+
+# A build that fails by a crate is at its end (rt's status is 1, or 3 where the prover cannot tell). Any other failure may come from what
+# a build left that was killed, so there all is built once more, from nothing. Only rt's own folders go: target/rust is cargo's.
+build_program() {
+    local status left=no
+    mkdir -p target/command 2>/dev/null && [ -w target/command ] ||
+        fail "the program has to be built, and $(quoted "$PWD/target") cannot be written"
+    [ ! -d target/rlib ] || left=yes
+    if compgen -G 'target/stamp/*' >/dev/null; then
+        say 'bringing the program up to date'
+    else
+        say 'proving and building the program, once; this takes some minutes'
+    fi
+    prove_program
+    status=$?
+    if [ "$left" = yes ] && [[ $status != [013] ]]; then
+        say 'what an earlier build left is of no use; building from nothing, which takes some minutes'
+        rm -rf target/{rlib,stamp,log,bin,obj} 2>/dev/null
+        prove_program
+        status=$?
+    fi
+    [ "$status" -eq 0 ] || fail "the program cannot be built; in $(quoted "$PWD"), 'rt check logcheck' shows why"
+    install_program
+}
+
+# rt's status, or 2 where rt is content and the program does not work, as one that was half written by a build before.
+prove_program() {
+    local status results=("${crates[@]/#/target/log/}")
+    [ -w "${TMPDIR:-/tmp}/." ] || unset TMPDIR # rt wants a temporary folder
+    rm -f "${results[@]/%/.res}" 2>/dev/null # show_progress reads them
+    rt check logcheck </dev/null 2>&1 | show_progress
+    status=${PIPESTATUS[0]}
+    [ "$status" -eq 0 ] || return "$status"
+    [ "$(run_program target/bin/logcheck </dev/null)" = 'serial 0' ] || return 2
+}
+
+install_program() {
+    install -m 755 target/bin/logcheck target/command/new 2>/dev/null && mv -f target/command/new "$program" 2>/dev/null ||
+        fail "the program is built, and cannot be copied to $(quoted "$PWD/target/command")"
+    find target/command -name 'logcheck-*' ! -path "$program" -delete 2>/dev/null # those of other sources
+    return 0
+}
+
+# Passes over what rt says, up to its end. Where standard error is a terminal, a line there shows meanwhile how far rt is. The line is
+# written over once a second, and cleared at the end. rt has a word for each crate: `failed` from its start on, and another once it is done.
+show_progress() {
+    local crate word now ready line='' began=$SECONDS
+    [ -t 2 ] || exec cat >/dev/null
+    while IFS= read -r -t 1 _ || [ $? -gt 128 ]; do
+        now='' ready=0
+        for crate in "${crates[@]}"; do
+            word=''
+            { read -r word <"target/log/$crate.res"; } 2>/dev/null
+            case $word in
+            '') ;;
+            failed) now+=" $crate" ;;
+            *) ready=$((ready + 1)) ;;
+            esac
+        done
+        printf '\r%*s' "${#line}" '' >&2
+        line="logcheck: $ready of ${#crates[@]} crates are proved, now$now ($((SECONDS - began)) s)"
+        printf '\r%s' "$line" >&2
+    done
+    printf '\r%*s\r' "${#line}" '' >&2
+}
