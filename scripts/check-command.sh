@@ -25,6 +25,12 @@ without_reader() ( # COMMAND ..
     exec "$@" >&4
 )
 
+# Often, since it was a matter of luck.
+read_first_lines() {
+    local _
+    for _ in {1..40}; do ./logcheck --help | head -n 1; done
+}
+
 # The text again and again, without an end, for a history.
 endless() { # TEXT [FIRST]
     { printf '%s' "${2-}" && yes "$1" | tr -d '\n'; } 2>/dev/null | timeout 60 ./logcheck --text
@@ -128,6 +134,8 @@ check_other_calls() {
     answers 'another folder, and a name with a dash' "$here/logs/c7.answer" in_folder "$room" "$here/logcheck" -- -c7.log
     ln -s "$here/logcheck" "$room/a link"
     answers 'a link to the command' logs/h1.answer "$room/a link" logs/h1.log
+    answers 'the command by sh' logs/h1.answer sh ./logcheck logs/h1.log
+    answers 'the command by bash' logs/h1.answer bash ./logcheck logs/h1.log
 }
 
 check_hints() {
@@ -180,6 +188,8 @@ check_unlucky() {
     refuses 'a full disk for --version' 'standard output cannot be written' into_full ./logcheck --version
     refuses 'a reader that is gone' 'standard output cannot be written' without_reader ./logcheck logs/h1.log
     refuses 'a reader of --help that is gone' 'standard output cannot be written' without_reader ./logcheck --help
+    run read_first_lines
+    check 'a reader of the first line alone leads to a message' [ ! -s "$room/err" ]
 }
 
 # What a caller may have set for himself changes nothing.

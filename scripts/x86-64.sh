@@ -25,10 +25,11 @@ else
             command -v qemu-x86_64 >/dev/null
     }
 
+    x86_apt() { DEBIAN_FRONTEND=noninteractive apt-get -qq -o Acquire::Retries=3 -o DPkg::Lock::Timeout=600 "$@"; }
+
     x86_install() {
         # shellcheck disable=SC2086
-        dpkg --add-architecture amd64 && apt-get -o Acquire::Retries=3 update -qq &&
-            DEBIAN_FRONTEND=noninteractive apt-get -o Acquire::Retries=3 install -y -qq --no-install-recommends $x86_packages
+        dpkg --add-architecture amd64 && x86_apt update && x86_apt install -y --no-install-recommends $x86_packages
     }
 
     # One at a time on this machine, whatever the clone: apt-get fails beside another. The lock is flock's, on dpkg's folder, and ends with
@@ -40,10 +41,11 @@ else
             exit 1
         fi
         echo "setting up Debian's tools for x86-64: this machine is $(uname -m)"
-        { exec {lock}</var/lib/dpkg && flock "$lock"; } 2>/dev/null
+        { exec {lock}</var/lib/dpkg || exec {lock}</; } 2>/dev/null
+        flock "$lock" 2>/dev/null || :
         x86_ready && exit 0 # another has installed them meanwhile
         log=$(mktemp 2>/dev/null || mktemp -p /tmp 2>/dev/null) || log=/dev/null
-        if x86_install </dev/null >"$log" 2>&1 {lock}<&-; then
+        if (exec {lock}<&- && x86_install) </dev/null >"$log" 2>&1; then
             [ "$log" = /dev/null ] || rm -f "$log"
             exit 0
         fi
