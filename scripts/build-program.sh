@@ -1,5 +1,5 @@
-# Proves and builds the release program where that is needed. To be sourced by ./logcheck, whose fail, say, quoted and run_program it
-# calls, with the repository's folder as the working folder; gives
+# Proves and builds the release program where that is needed. To be sourced by ./logcheck, whose fail, say and run_program it calls, with
+# the repository's folder as the working folder; gives
 #   make_program     sets `program` to the program of the sources as they are now, and builds it where it is not there
 # A program is put in place by a rename once it was proved, built and tried, so nobody runs half of one. Its name has a sum over its
 # sources: it is never that of other sources, and no clock plays a part.
@@ -17,6 +17,7 @@ locate_program() {
     program=target/command/logcheck-${sum:0:16}
 }
 
+# Takes no lock where the program is there, so that uses do not wait for each other, nor for a build of ./test.
 make_program() {
     locate_program
     [ ! -x "$program" ] || return 0
@@ -32,7 +33,7 @@ make_program() {
 build_program() {
     local status left=no
     mkdir -p target/command 2>/dev/null && [ -w target/command ] ||
-        fail "the program has to be built, and $(quoted "$PWD/target") cannot be written"
+        fail "the program has to be built, and ${PWD@Q}/target cannot be written"
     [ ! -d target/rlib ] || left=yes
     if compgen -G 'target/stamp/*' >/dev/null; then
         say 'bringing the program up to date'
@@ -47,7 +48,7 @@ build_program() {
         prove_program
         status=$?
     fi
-    [ "$status" -eq 0 ] || fail "the program cannot be built; in $(quoted "$PWD"), 'rt check logcheck' shows why"
+    [ "$status" -eq 0 ] || fail "the program cannot be built; in ${PWD@Q}, 'rt check logcheck' shows why"
     install_program
 }
 
@@ -62,15 +63,16 @@ prove_program() {
     [ "$(run_program target/bin/logcheck </dev/null)" = 'serial 0' ] || return 2
 }
 
+# The lock is held, so `new` is this build's alone; one that was killed may have left half of it.
 install_program() {
     install -m 755 target/bin/logcheck target/command/new 2>/dev/null && mv -f target/command/new "$program" 2>/dev/null ||
-        fail "the program is built, and cannot be copied to $(quoted "$PWD/target/command")"
+        fail "the program is built, and cannot be copied to ${PWD@Q}/target/command"
     find target/command -name 'logcheck-*' ! -path "$program" -delete 2>/dev/null # those of other sources
     return 0
 }
 
 # Passes over what rt says, up to its end. Where standard error is a terminal, a line there shows meanwhile how far rt is. The line is
-# written over once a second, and cleared at the end. rt has a word for each crate: `failed` from its start on, and another once it is done.
+# written over once a second, and cleared at the end. rt has a word for each crate: `failed` from its start on, `proved` or `built` at its end.
 show_progress() {
     local crate word now ready line='' began=$SECONDS
     [ -t 2 ] || exec cat >/dev/null
@@ -80,13 +82,12 @@ show_progress() {
             word=''
             { read -r word <"target/log/$crate.res"; } 2>/dev/null
             case $word in
-            '') ;;
             failed) now+=" $crate" ;;
-            *) ready=$((ready + 1)) ;;
+            proved | built) ready=$((ready + 1)) ;;
             esac
         done
         printf '\r%*s' "${#line}" '' >&2
-        line="logcheck: $ready of ${#crates[@]} crates are proved, now$now ($((SECONDS - began)) s)"
+        line="logcheck: $ready of ${#crates[@]} crates are proved${now:+, now$now} ($((SECONDS - began)) s)"
         printf '\r%s' "$line" >&2
     done
     printf '\r%*s\r' "${#line}" '' >&2

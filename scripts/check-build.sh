@@ -206,14 +206,14 @@ check_failures() {
     check 'a build that fails for a crate is done twice' lines 1 "$CONTROL/calls"
     new_checkout
     echo >"$checkout/target"
-    cannot 'a file in the place of target/' 1 "target' cannot be written" logcheck
+    cannot 'a file in the place of target/' 1 '/target cannot be written' logcheck
     new_checkout
     if [ "$(id -u)" -eq 0 ]; then
-        cannot 'a checkout of another user' 1 "target' cannot be written" \
+        cannot 'a checkout of another user' 1 '/target cannot be written' \
             setpriv --reuid=65534 --regid=65534 --clear-groups "$checkout/logcheck" </dev/null
     else
         chmod a-w "$checkout"
-        cannot 'a checkout that cannot be written' 1 "target' cannot be written" logcheck
+        cannot 'a checkout that cannot be written' 1 '/target cannot be written' logcheck
         chmod u+w "$checkout"
     fi
     mv "$tools/rt" "$room/rt"

@@ -12,6 +12,10 @@ mkfifo "$room/pipe"
 without_input() { timeout 60 "$@" <&-; }
 without_output() { "$@" >&-; }
 without_errors() { "$@" 2>&-; }
+without_signal() (
+    trap '' PIPE
+    exec "$@"
+)
 into_full() { "$@" >/dev/full; }
 in_folder() { # FOLDER COMMAND ..
     local folder=$1
@@ -114,6 +118,8 @@ check_long_histories() {
     refuses 'a number without an end' 'too long: more than 1048576 characters, with 1 operations' endless 1 'c0 c'
     refuses 'blanks in an operation without an end' 'too long' endless ' ' 'w0['
     refuses 'wrong words without an end' "record 0, character 1: 'qqq" endless q
+    repeat 5000 'w0[10,10]' >"$room/text" # bytes that are line ends, and a program that stops reading
+    answers 'too many operations, and no signal for a pipe' "$too_long" without_signal ./logcheck --text <"$room/text"
     answers 'operations enough, and a writer that waits' "$too_long" from_slow_writer "$(repeat 4098 'c0 ')"
 }
 
@@ -134,6 +140,8 @@ check_other_calls() {
     answers 'another folder, and a name with a dash' "$here/logs/c7.answer" in_folder "$room" "$here/logcheck" -- -c7.log
     ln -s "$here/logcheck" "$room/a link"
     answers 'a link to the command' logs/h1.answer "$room/a link" logs/h1.log
+    cp logcheck "$room/copy"
+    refuses 'a copy of the command' 'a copy without its repository' "$room/copy" logs/h1.log
     answers 'the command by sh' logs/h1.answer sh ./logcheck logs/h1.log
     answers 'the command by bash' logs/h1.answer bash ./logcheck logs/h1.log
 }

@@ -6,22 +6,26 @@
 # the last process that has it open. Those that a command starts under it have it open as well: where a ./logcheck is killed and its rt
 # goes on, the next one waits for that rt. So nothing that outlives its build may be started under the lock.
 # shellcheck shell=bash
+unset build_lock # a caller's
 
+# Goes on without a lock where the file system has none.
 take_lock() { # NAME
     local busy=0
     { exec {build_lock}<.; } 2>/dev/null || return 0
     flock -n "$build_lock" 2>/dev/null || busy=$?
-    [ "$busy" -eq 1 ] || return 0 # the lock is taken, or this file system has none
+    [ "$busy" -eq 1 ] || return 0
     echo "$1: another build goes on in this folder; waiting for its end" >&2
     flock "$build_lock" 2>/dev/null || :
 }
 
+# Whoever waits goes on at once.
 free_lock() {
     [ -n "${build_lock-}" ] || return 0
     exec {build_lock}<&-
     unset build_lock
 }
 
+# For a command that does not know of the lock, as rt.
 under_lock() { # NAME COMMAND ..
     local status=0
     take_lock "$1"
