@@ -46,7 +46,7 @@ from_slow_writer() { # HISTORY
 }
 
 repeat() { # TIMES TEXT
-    yes "$2" | head -n "$1" | tr -d '\n'
+    yes "$2" 2>/dev/null | head -n "$1" | tr -d '\n'
 }
 
 # ---- what is given

@@ -10,6 +10,7 @@
 # shellcheck shell=bash
 set -u
 unset CDPATH
+export LC_ALL=C.UTF-8
 cd "$(dirname "$(readlink -f "${BASH_SOURCE[0]}")")/.." || exit 1
 
 passed=0
