@@ -80,12 +80,12 @@ lines() { [ "$(wc -l <"$2")" -eq "$1" ]; } # NUMBER FILE
 
 # rt was called so many times, and the use that `run` kept has the answer, with these words on standard error, a line for each.
 built() { # WHAT CALLS WORDS ..
-    local what=$1 calls=$2 words good
+    local what=$1 calls=$2 words result
     shift 2
     [ "$status" -eq 0 ] && cmp -s "$room/empty" "$room/out" && lines "$calls" "$CONTROL/calls" && lines $# "$room/err"
-    good=$?
-    for words; do has "$words" "$room/err" || good=1; done
-    count "$what (status $status, $(wc -l <"$CONTROL/calls") calls of rt)" "$good" "$room/out" "$room/err"
+    result=$?
+    for words; do has "$words" "$room/err" || result=1; done
+    judged "$what, with $(wc -l <"$CONTROL/calls") calls of rt" "$result"
 }
 
 # ---- the checks
@@ -191,12 +191,10 @@ check_progress() {
 
 # The command prints one line, or one more where it has said that it builds, and the status is 3.
 cannot() { # WHAT LINES WORDS COMMAND ..
-    local what=$1 number=$2 words=$3
-    shift 3
-    run "$@"
-    [ "$status" -eq 3 ] && [ ! -s "$room/out" ] && lines "$number" "$room/err" && has "$words" <(tail -n 1 "$room/err") &&
-        [ "$(grep -c '^logcheck: ' "$room/err")" -eq "$number" ]
-    count "$what (status $status)" $? "$room/out" "$room/err"
+    run "${@:4}"
+    [ "$status" -eq 3 ] && [ ! -s "$room/out" ] && lines "$2" "$room/err" && has "$3" <(tail -n 1 "$room/err") &&
+        [ "$(grep -c '^logcheck: ' "$room/err")" -eq "$2" ]
+    judged "$1" $?
 }
 
 check_failures() {
@@ -254,7 +252,7 @@ END
         uses+=("$use")
     done
     for use in "${uses[@]}"; do wait "$use" || result=1; done
-    count "three uses at once do not install Debian's tools" "$result" "$room/err."[123]
+    count "three uses at once do not install Debian's tools" "$result"
     check "three uses at once install Debian's tools more than once" lines 1 "$CONTROL/installs"
     rm "$tools/"{id,dpkg,dpkg-query,qemu-x86_64,apt-get}
 }
@@ -266,4 +264,4 @@ check_killed_command
 check_progress
 check_failures
 check_debians_tools
-finish
+counts

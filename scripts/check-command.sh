@@ -256,4 +256,4 @@ check_unlucky
 check_environment
 check_terminal
 check_help
-finish
+counts

@@ -21,13 +21,13 @@ history_of() { # ENTRY
 log_of() { # ENTRY
     local history escapes
     if history=$(history_of "$1"); then
-        escapes=$(scripts/history.pl "$history") || return
+        scripts/log-from-text.sh "$history"
     else
         # shellcheck disable=SC2086
         printf -v escapes '\\%03o' ${1#bytes }
+        # shellcheck disable=SC2059
+        printf "$escapes"
     fi
-    # shellcheck disable=SC2059
-    printf "$escapes"
 }
 
 # The row of the table in logs/README.md for an entry of the list, but for what it shows.
@@ -75,4 +75,4 @@ while IFS=$'\t' read -r name entry <&3; do
 done 3<logs/list.txt
 [ "${1-}" != --make ] || exit 0
 check_folder
-finish
+counts

@@ -1,44 +1,29 @@
-# What the scripts that check ./logcheck share. To be sourced, first; goes to the repository's folder and gives
-#   room                           a temporary folder, which is removed at the end
-#   check WHAT COMMAND ..          counts a command that must succeed
+# What the scripts that check ./logcheck share. To be sourced first; goes to the repository's folder, counts by scripts/count.sh, and gives
+#   run COMMAND ..                 runs a command, and keeps what it prints in the room, as out and err, and its status as `status`
 #   answers WHAT FILE COMMAND ..   counts one that must print just what is in FILE, nothing on standard error, and have the status of that answer
 #   hints WHAT FILE TEXT COMMAND   the same, with one line on standard error that has TEXT in it
 #   refuses WHAT TEXT COMMAND ..   counts one that must print nothing but one line on standard error, with TEXT in it, and have the status 3
-#   has, lacks TEXT FILE           whether the text stands in the file
-#   finish                         prints `N passed, M failed`, and ends with status 0 exactly where M is 0 and N is not
-# A line for each failure says WHAT and what came instead.
+#   judged WHAT STATUS             counts a command that was run, and shows what it printed where STATUS is not 0
+#   has TEXT FILE, lacks ..        whether a text stands in a file
 # shellcheck shell=bash
 set -u
 unset CDPATH
 export LC_ALL=C.UTF-8
 cd "$(dirname "$(readlink -f "${BASH_SOURCE[0]}")")/.." || exit 1
-
-passed=0
-failed=0
-room=$(mktemp -d) || exit 1
-trap 'rm -rf "$room"' EXIT
+. scripts/count.sh
 
 has() { grep -qF -- "$1" "$2"; } # TEXT FILE
 lacks() { ! has "$@"; }
 
-# Counts one check. Of one that failed it shows the beginning of what was printed.
-count() { # WHAT RESULT PRINTED ..
-    local what=$1 result=$2
-    shift 2
-    if [ "$result" -eq 0 ]; then
-        passed=$((passed + 1))
-    else
-        failed=$((failed + 1))
-        echo "failed: $what"
-        head -q -n 5 "$@" | cut -c 1-200
-    fi
+run() { # COMMAND ..
+    "$@" >"$room/out" 2>"$room/err"
+    status=$?
 }
 
-check() { # WHAT COMMAND ..
-    local what=$1
-    shift
-    "$@" >"$room/said" 2>&1
-    count "$what" $? "$room/said"
+# What was printed is shown only in part, and indented: it may be long, and a count in it is not this script's.
+judged() { # WHAT STATUS
+    [ "$2" -eq 0 ] || head -q -n 5 "$room/out" "$room/err" | cut -c 1-200 | sed 's/^/    /'
+    count "$1 (its status is $status)" "$2"
 }
 
 # The status that goes with an answer.
@@ -50,43 +35,25 @@ status_of() { # ANSWER-FILE
     esac
 }
 
-# Runs a command; what it prints is kept in the room, as out and err, and its status.
-run() { # COMMAND ..
-    "$@" >"$room/out" 2>"$room/err"
-    status=$?
+# One line of the command's own, with a text in it, is all that stands on standard error.
+one_line() { # TEXT
+    [ "$(wc -l <"$room/err")" -eq 1 ] && grep -q '^logcheck: ' "$room/err" && has "$1" "$room/err"
 }
 
 answers() { # WHAT ANSWER-FILE COMMAND ..
-    local what=$1 answer=$2 status
-    shift 2
-    run "$@"
-    [ "$status" = "$(status_of "$answer")" ] && [ ! -s "$room/err" ] && cmp -s "$answer" "$room/out"
-    count "$what (status $status)" $? "$room/out" "$room/err"
-}
-
-# One line of the command's own, with a text in it, is all that stands on standard error.
-one_line() { # TEXT
-    [ "$(wc -l <"$room/err")" -eq 1 ] && grep -q '^logcheck: ' "$room/err" && grep -qF -- "$1" "$room/err"
+    run "${@:3}"
+    [ "$status" = "$(status_of "$2")" ] && [ ! -s "$room/err" ] && cmp -s "$2" "$room/out"
+    judged "$1" $?
 }
 
 hints() { # WHAT ANSWER-FILE TEXT COMMAND ..
-    local what=$1 answer=$2 text=$3 status
-    shift 3
-    run "$@"
-    [ "$status" = "$(status_of "$answer")" ] && one_line "$text" && cmp -s "$answer" "$room/out"
-    count "$what (status $status)" $? "$room/out" "$room/err"
+    run "${@:4}"
+    [ "$status" = "$(status_of "$2")" ] && one_line "$3" && cmp -s "$2" "$room/out"
+    judged "$1" $?
 }
 
 refuses() { # WHAT TEXT COMMAND ..
-    local what=$1 text=$2 status
-    shift 2
-    run "$@"
-    [ "$status" -eq 3 ] && [ ! -s "$room/out" ] && one_line "$text"
-    count "$what (status $status)" $? "$room/out" "$room/err"
-}
-
-finish() {
-    echo "$passed passed, $failed failed"
-    [ "$failed" -eq 0 ] && [ "$passed" -gt 0 ]
-    exit
+    run "${@:3}"
+    [ "$status" -eq 3 ] && [ ! -s "$room/out" ] && one_line "$2"
+    judged "$1" $?
 }
