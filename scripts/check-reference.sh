@@ -1,5 +1,5 @@
 #!/bin/bash
-# Holds the examples of docs/LOGS.md to the checker. It reads them from the page:
+# Holds the examples of docs/LOGS.md, and those of README.md, to the checker. It reads them from the pages:
 #   rows      a cell that is an answer, as `refused 6 2` or `cycle 2: 1 1, 2 3`, stands behind the cell of its example; where the first
 #             cell of the row is a number, it is the refusal's. An example is a history, (empty), or one of
 #                 repeat 3 c0 c1    a history that has the operation so many times, and then the rest
@@ -7,50 +7,27 @@
 #                 call ..           a call of the library, where log is the 4 bytes of c0 and answer is a buffer
 #   blocks    a line `    $ ./logcheck --text 'HISTORY'`, and below it what is printed
 #   dump      rows of a record's number, its 4 bytes in hexadecimal, its operation, its first byte's place, and its copy number or none
-# What is printed must be the same; the exit status is not looked at. The calls want target/staticlib/libclib.a. It prints a line for each
+# What is printed must be the same, and the status that of the answer. The calls want target/staticlib/libclib.a. It prints a line for each
 # failure, and `N passed, M failed` at the end.
-set -u
-cd "$(dirname "$0")/.." || exit 1
+. "$(dirname "$0")/checks.sh"
 . scripts/x86-64.sh
+. scripts/x86-c.sh
 
 page=docs/LOGS.md
-passed=0
-failed=0
-room=$(mktemp -d) || exit 1
-trap 'rm -rf "$room"' EXIT
-compiler=x86_64-linux-gnu-gcc
-[ "$(uname -m)" != x86_64 ] || compiler=$(command -v gcc || command -v cc)
 
-# Counts one check.
-count() { # WHAT STATUS
-    if [ "$2" -eq 0 ]; then
-        passed=$((passed + 1))
-    else
-        failed=$((failed + 1))
-        echo "failed: $1"
-    fi
-}
-
-check() { # WHAT COMMAND ..
-    local what=$1
-    shift
-    "$@"
-    count "$what" $?
-}
-
-# The examples of the page: a line each, of its place in the page, the row's first cell (or -), the example and the answer on one line.
-examples() {
+# The examples of a page: a line each, of its place, the row's first cell (or -), the example and the answer on one line.
+examples() { # PAGE
     awk -v OFS='\t' '
-        function end_block() { if (at) print at, "-", "`" history "`", "`" answer "`"; at = 0 }
+        function end_block() { if (at) print FILENAME ", line " at, "-", "`" history "`", "`" answer "`"; at = 0 }
         /^    \$ / { end_block(); at = FNR; answer = ""; split($0, part, "\047"); history = part[2]; next }
         /^    / && at { answer = answer (answer == "" ? "" : answer ~ /:/ ? ", " : ": ") substr($0, 5); next }
         { end_block() }
         /^\|/ {
             cells = split($0, cell, / *\| */)
             for (i = 3; i < cells; i++)
-                if (cell[i] ~ /^`(serial|cycle|refused) [0-9]/) print FNR, cell[2], cell[i - 1], cell[i]
+                if (cell[i] ~ /^`(serial|cycle|refused) [0-9]/) print FILENAME ", line " FNR, cell[2], cell[i - 1], cell[i]
         }
-        END { end_block() }' "$page"
+        END { end_block() }' "$1"
 }
 
 # The rows of the dump: record, bytes, operation, first byte, copy number.
@@ -58,13 +35,8 @@ dump_rows() {
     awk -v FS=' *\\| *' -v OFS='\t' '$3 ~ /^`[0-9a-f ]+`$/ && length($3) == 13 { gsub(/`/, ""); print $2, $3, $4, $5, $6 }' "$page"
 }
 
-# What a call of the library answers.
+# What a call of the library answers. Its status is that of the answer, as the command's.
 called() { # CALL
-    local library=target/staticlib/libclib.a
-    if [ ! -e "$library" ]; then
-        echo "$library is not there (rt staticlib clib makes it)" >&2
-        return
-    fi
     cat >"$room/call.c" <<END_OF_C
 #include <stdio.h>
 #include "fruscalenta.h"
@@ -72,9 +44,10 @@ int main(void) {
     uint8_t log[] = {3, 0, 0, 0}, answer[FRUSCALENTA_ROOM];
     (void)log, (void)answer;
     printf("refused %d %d\n", (int)$1.number, (int)$1.place);
+    return 2;
 }
 END_OF_C
-    "$compiler" -std=c99 -Iinclude "$room/call.c" "$library" -o "$room/call" && x86_run "$room/call"
+    x86_cc -std=c99 -Iinclude "$room/call.c" "$x86_archive" -o "$room/call" && x86_run "$room/call"
 }
 
 # What an example answers.
@@ -97,7 +70,7 @@ answer_to() { # EXAMPLE
 }
 
 check_example() { # PLACE FIRST-CELL EXAMPLE ANSWER
-    local example=${3#\`} answer=${4#\`} what="$page, line $1: $3"
+    local example=${3#\`} answer=${4#\`} what="$1: $3"
     example=${example%\`}
     answer=${answer%\`}
     if [[ "\`$example\`" != "$3" || "\`$answer\`" != "$4" || $example == *\`* ]]; then
@@ -109,9 +82,7 @@ check_example() { # PLACE FIRST-CELL EXAMPLE ANSWER
         return
     fi
     sed 's/: /\n/; s/, /\n/g' <<<"$answer" >"$room/wanted"
-    answer_to "$example" >"$room/out" 2>"$room/err"
-    what+=": not $answer but $(head -c 200 "$room/out" | tr '\n' ' ')$(tail -n 1 "$room/err")"
-    check "$what" cmp -s "$room/wanted" "$room/out"
+    answers "$what: not $answer" "$room/wanted" answer_to "$example"
 }
 
 # The dump's bytes are the log of its operations, whichever way the program gets them, and its numbers are true.
@@ -151,16 +122,19 @@ check_whole() {
     done
 }
 
-if [ "$(./logcheck </dev/null)" != 'serial 0' ]; then # builds it, where that is needed
-    echo 'failed: ./logcheck does not run'
-    echo '0 passed, 1 failed'
+check './logcheck does not run' ./logcheck logs/p01.log # builds it, where that is needed
+check 'the tools for x86-64 are not there' x86_setup
+check 'there is no library to link' x86_library
+if [ "$failed" -gt 0 ]; then
+    counts
     exit 1
 fi
-examples >"$room/examples"
+examples "$page" >"$room/examples"
+examples README.md >"$room/readme"
+check 'README.md has no example' [ -s "$room/readme" ]
 while IFS=$'\t' read -r place first example answer <&3; do
     check_example "$place" "$first" "$example" "$answer"
-done 3<"$room/examples"
+done 3< <(cat "$room/readme" "$room/examples")
 check_dump
 check_whole
-echo "$passed passed, $failed failed"
-[ "$failed" -eq 0 ] && [ "$passed" -gt 0 ]
+counts

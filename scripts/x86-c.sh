@@ -1,11 +1,13 @@
 # shellcheck shell=bash disable=SC2154
 # C and single Rust files for x86-64 Linux, on any machine, and the library that they link. To be sourced behind x86-64.sh, whose x86_setup
-# makes the tools ready; gives
+# makes the tools ready, with the repository's folder as the working folder; gives
 #   x86_library                           makes the static library where it is not there, and says in one line why it cannot
 #   x86_archive                           its file
 #   x86_cc WORDS .., x86_rustc WORDS ..   the compilers
 #   x86_cc_name, x86_rustc_name           their programs
 #   x86_binutil NAME WORDS ..             a program that reads what was built, as nm
+
+. scripts/lock.sh
 
 x86_archive=target/staticlib/libclib.a
 
@@ -32,7 +34,7 @@ x86_library() {
     fi
     echo 'proving and building the library, once; this takes some minutes' >&2
     log=$(mktemp) || return 1
-    if rt staticlib clib >"$log" 2>&1 </dev/null && [ -e "$x86_archive" ]; then
+    if under_lock example rt staticlib clib >"$log" 2>&1 </dev/null && [ -e "$x86_archive" ]; then
         rm -f "$log"
         return 0
     fi
