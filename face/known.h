@@ -57,6 +57,7 @@ static const struct known_log known_logs[] = {
     {"5 at record 1, and before 6", "c0 c0[yA]", REFUSED(5, 1)},
     {"6 before 7", "c0 r0[xA]", REFUSED(6, 1)},
     {"7 before 8", "w0[xA] r0[xB] c0", REFUSED(7, 1)},
+    {"8 before 9", "w0[xA] w0[xB] c0 w1[xA] r1[xB]", REFUSED(8, 4)},
     {"9 for the lowest", "w5[xA] w4[xB] c4 w3[xC]", REFUSED(9, 3)},
 
     /* The highest transaction is a source, beside the number for "none". 0 reads what 63 wrote: a conflict, so that 63 stands first. */

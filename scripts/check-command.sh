@@ -232,7 +232,7 @@ check_help() {
     local words
     check './logcheck --help fails' ./logcheck --help
     cp "$room/said" "$room/help"
-    for words in '^Tells whether a finished run .* is one-copy serializable' '^    0 .*serial n' '^    1 .*cycle n' '^    2 .*refused number' \
+    for words in '^Asks of a finished run .* one-copy serializable' '^    0 .*serial n' '^    1 .*cycle n' '^    2 .*refused number' \
         '^    3 .*none' 'docs/LOGS.md is the reference' 'r1\[xA\]'; do
         check "./logcheck --help has no $words" grep -q "$words" "$room/help"
     done

@@ -91,7 +91,7 @@ cp include/fruscalenta.h "$room/mistakes/none"
 check 'a copy of the header without a mistake is not as good as the header' passes "$room/mistakes/none"
 check 'no mistakes could be made' perl scripts/header-mistakes.pl include/fruscalenta.h "$room/mistakes"
 cp "$room/said" "$room/list"
-check 'fewer mistakes than there are constants, fields and parameters' [ "$(wc -l <"$room/list")" -gt 60 ]
+check 'not 60 mistakes could be made, though there are that many' [ "$(wc -l <"$room/list")" -ge 60 ]
 while IFS=$'\t' read -r folder mistake; do
     check "a header with a mistake passes: $mistake" is_caught "$room/mistakes/$folder"
 done <"$room/list"

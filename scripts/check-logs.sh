@@ -3,33 +3,6 @@
 # end. With `--make` it only makes the logs of logs/list.txt anew (never the answers, which are worked out by hand).
 . "$(dirname "$0")/checks.sh"
 
-# The history of an entry of the list, written out; fails where no notation can write it.
-history_of() { # ENTRY
-    local times operation rest
-    case $1 in
-    bytes\ *) return 1 ;;
-    repeat\ *)
-        read -r _ times operation rest <<<"$1"
-        printf "%.0s$operation " $(seq "$times")
-        printf '%s' "$rest"
-        ;;
-    *) printf '%s' "$1" ;;
-    esac
-}
-
-# The log of an entry of the list, as bytes.
-log_of() { # ENTRY
-    local history escapes
-    if history=$(history_of "$1"); then
-        scripts/log-from-text.sh "$history"
-    else
-        # shellcheck disable=SC2086
-        printf -v escapes '\\%03o' ${1#bytes }
-        # shellcheck disable=SC2059
-        printf "$escapes"
-    fi
-}
-
 # The row of the table in logs/README.md for an entry of the list, but for what it shows.
 row_of() { # NAME ENTRY
     local answer history="\`$2\`"

@@ -52,20 +52,18 @@ END_OF_C
 
 # What an example answers.
 answer_to() { # EXAMPLE
-    local times operation rest
+    local history
     case $1 in
     '(empty)') ./logcheck --text '' ;;
-    repeat\ *)
-        read -r _ times operation rest <<<"$1"
-        ./logcheck --text "$(printf "%.0s$operation " $(seq "$times"))$rest"
-        ;;
-    bytes\ *)
-        # shellcheck disable=SC2046,SC2059,SC2086
-        printf "$(printf '\\%03o' ${1#bytes })" >"$room/log"
-        ./logcheck "$room/log"
-        ;;
     call\ *) called "${1#call }" ;;
-    *) ./logcheck --text "$1" ;;
+    *)
+        if history=$(history_of "$1"); then
+            ./logcheck --text "$history"
+        else
+            log_of "$1" >"$room/log"
+            ./logcheck "$room/log"
+        fi
+        ;;
     esac
 }
 

@@ -5,6 +5,8 @@
 #   refuses WHAT TEXT COMMAND ..   counts one that must print nothing but one line on standard error, with TEXT in it, and have the status 3
 #   judged WHAT STATUS             counts a command that was run, and shows what it printed where STATUS is not 0
 #   has TEXT FILE, lacks ..        whether a text stands in a file
+#   history_of, log_of ENTRY       the history, or the bytes, of an entry: a history; `repeat` with a number, an operation that stands so many
+#                                  times, and what follows it; or `bytes` and the bytes that no notation can write
 # shellcheck shell=bash
 set -u
 unset CDPATH
@@ -56,4 +58,31 @@ refuses() { # WHAT TEXT COMMAND ..
     run "${@:3}"
     [ "$status" -eq 3 ] && [ ! -s "$room/out" ] && one_line "$2"
     judged "$1" $?
+}
+
+# The history of an entry, written out; fails where no notation can write it.
+history_of() { # ENTRY
+    local times operation rest
+    case $1 in
+    bytes\ *) return 1 ;;
+    repeat\ *)
+        read -r _ times operation rest <<<"$1"
+        printf "%.0s$operation " $(seq "$times")
+        printf '%s' "$rest"
+        ;;
+    *) printf '%s' "$1" ;;
+    esac
+}
+
+# The log of an entry, as bytes.
+log_of() { # ENTRY
+    local history escapes
+    if history=$(history_of "$1"); then
+        scripts/log-from-text.sh "$history"
+    else
+        # shellcheck disable=SC2086
+        printf -v escapes '\\%03o' ${1#bytes }
+        # shellcheck disable=SC2059
+        printf "$escapes"
+    fi
 }

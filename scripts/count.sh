@@ -3,7 +3,7 @@
 #   count WHAT STATUS         counts one check, and prints a line where its status is not 0
 #   check WHAT COMMAND ..     counts one command, and shows what it said where it failed
 #   counts                    prints the last line; its status is 0 exactly where some passed and none failed
-#   $room                     a folder for files, which goes with the script
+#   $room                     a folder for files, which goes with the script; the last `check` has left there, as `said`, what its command said
 
 passed=0
 failed=0

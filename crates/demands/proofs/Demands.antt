@@ -298,6 +298,7 @@ module _ (log old : List ℕ) (v : Verdict) (new : List ℕ) (promised : JudgesL
   unfolding line-or-cycle
   demand-2 =
       record {
+        given-where-passed = λ ok has. (length-of (line-or-cycle log), answered ok has);
         of-this-graph = λ o h. (its-length-is o h, is-written o h);
         line-keeps-every-edge = λ n h. (given-line n h, line-written n h, edge-kept n h);
         cycle-of-edges = λ n h k l.
@@ -313,10 +314,13 @@ module _ (log old : List ℕ) (v : Verdict) (new : List ℕ) (promised : JudgesL
         line-is-of-RDSG = λ n h. acyclic-is-RDSG log (sound (line n) h) (no-cycle n h);
       }
 
--- THEOREM: demand 2 is whole by itself: any two verdicts that meet it and refuse nothing are the same, and so are the buffers left
-pub demand-2-determines : (log old : List ℕ) (a b : Verdict) (left right : List ℕ) → Demand2 log old a left → Demand2 log old b right
-    → (o p : LineOrCycle ℕ) → verdict-says a ≡ gives o → verdict-says b ≡ gives p → (a ≡ b) × (left ≡ right)
-demand-2-determines log old a b left right d e o p h g =
+-- THEOREM: demand 2 is whole by itself: for a log that passes the checks, any two verdicts that meet it are the same, and so are the buffers
+-- left
+pub demand-2-determines : (log old : List ℕ) (a b : Verdict) (left right : List ℕ) → check-answer log ≡ passed → most-answer ≤ length old
+    → Demand2 log old a left → Demand2 log old b right → (a ≡ b) × (left ≡ right)
+demand-2-determines log old a b left right ok room d e =
+    let (o, h) = d .given-where-passed ok room in
+    let (p, g) = e .given-where-passed ok room in
     let x = d .of-this-graph o h in
     let y = e .of-this-graph p g in
     (same-verdict a b (h ∙ ap gives (x .0 ∙ sym (y .0)) ∙ sym g), x .1 ∙ sym (y .1))

@@ -71,7 +71,7 @@ module _ (log : List ℕ) (i j : ℕ) where
       → TrueReason log i j n
   lowest-reason n h f g a = record { applies = a; none-lower = λ m l b. none-applies-below n h f g m (omega (arith, l)) b }
 
-  -- THEOREM: an edge has one true reason
+  -- THEOREM: there is no more than one true reason
   pub one-reason : (m n : ℕ) → TrueReason log i j m → TrueReason log i j n → m ≡ n
   one-reason m n a b = go (decLt m n) (decLt n m)
     where
@@ -80,7 +80,7 @@ module _ (log : List ℕ) (i j : ℕ) where
       go (no l) (yes k) = absurd (a .none-lower n (omega (arith, k)) (b .applies))
       go (no l) (no k) = omega (arith, l, k)
 
-  -- and it is the one that the definitions report
+  -- an edge has one, which is the one that the definitions report
   pub edge-has-reason : edge log i j ≡ true → TrueReason log i j (reason log i j)
   edge-has-reason h = subst (TrueReason log i j) is-lowest (go (conflict log i j) refl (write-order log i j) refl (read-before log i j) refl)
     where

@@ -43,8 +43,10 @@ module _ (log old : List ℕ) (v : Verdict) (new : List ℕ) where
 
   -- DEMAND 2. "Its graph is the replicated-data serialization graph .. no edge of that rule is missing and none is added."
   pub record Demand2 : Type 0 where
-    -- What is given, and every byte of it, is document 01's line or cycle of the graph that has just these edges, between just the
-    -- transactions in the log. So an edge that is left out or added shows wherever it makes a difference to a line or a cycle.
+    -- A log that passes the checks gets a line or a cycle. What is given, and every byte of it, is document 01's line or cycle of the graph
+    -- that has just these edges, between just the transactions in the log. So an edge that is left out or added shows wherever it makes a
+    -- difference to a line or a cycle.
+    pub given-where-passed : check-answer log ≡ passed → most-answer ≤ length old → (o : LineOrCycle ℕ) × (verdict-says v ≡ gives o)
     pub of-this-graph : (o : LineOrCycle ℕ) → verdict-says v ≡ gives o
         → let given = sorted transactions (edge log) (in-log log) in
         (o ≡ length-of given) × (new ≡ answer-records log (gives given) ++ drop (length (members-of given) * record-size) old)

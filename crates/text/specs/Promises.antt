@@ -10,7 +10,7 @@ use Rattle.verdict.specs.Promises.{LeavesRecords}
 use Rattle.verdict.specs.declared.answer.Verdict.{Verdict}
 use Rattle.text.specs.Text.{text-room, printed-answer, printed-with, printed}
 
--- these bytes stand in the front of a text that was lent, n is how many they are, and all other bytes keep their content
+-- these bytes stand in the front of a text that was lent, n is how many they are, there is room for them, and all other bytes keep their content
 pub record Prints (bytes old : List ℕ) (n : ℕ) (new : List ℕ) : Type 0 where
   pub counted : n ≡ length bytes
   pub leaves : new ≡ sets old 0 bytes
