@@ -13,7 +13,8 @@ locate_program() {
     for crate in $(sed -n 's/^logcheck://p' crates.txt 2>/dev/null) logcheck; do
         if [ -d "crates/$crate" ]; then crates+=("$crate"); fi # the others are the kit's
     done
-    sum=$(find crates.txt "${crates[@]/#/crates/}" -name must-fail -prune -o -type f -exec sha256sum {} + 2>/dev/null | sort | sha256sum)
+    sum=$(set -o pipefail && find crates.txt "${crates[@]/#/crates/}" -name must-fail -prune -o -type f -exec sha256sum {} + 2>/dev/null |
+        sort | sha256sum) || fail "the sources of the program, in ${PWD@Q}, cannot be read"
     program=target/command/logcheck-${sum:0:16}
 }
 
@@ -29,9 +30,10 @@ make_program() {
 }
 
 # A build that fails by a crate is at its end (rt's status is 1, or 3 where the prover cannot tell). Any other failure may come from what
-# a build left that was killed, so there all is built once more, from nothing. Only rt's own folders go: target/rust is cargo's.
+# a build left that was killed, so there all is built once more, from nothing.
 build_program() {
     local status left=no
+    umask u+rwx # a caller's mask may keep him from his own files
     mkdir -p target/command 2>/dev/null && [ -w target/command ] ||
         fail "the program has to be built, and ${PWD@Q}/target cannot be written"
     [ ! -d target/rlib ] || left=yes
@@ -44,12 +46,27 @@ build_program() {
     status=$?
     if [ "$left" = yes ] && [[ $status != [013] ]]; then
         say 'what an earlier build left is of no use; building from nothing, which takes some minutes'
-        rm -rf target/{rlib,stamp,log,bin,obj} 2>/dev/null
-        prove_program
+        prove_from_nothing
         status=$?
     fi
     [ "$status" -eq 0 ] || fail "the program cannot be built; in ${PWD@Q}, 'rt check logcheck' shows why"
     install_program
+}
+
+# The failure may have another cause, and then what an earlier build left is good: it goes only once there is something better. Only rt's
+# own folders are moved: target/rust is cargo's.
+prove_from_nothing() {
+    local parts=(rlib stamp log bin obj) status
+    rm -rf target/aside 2>/dev/null
+    mkdir target/aside 2>/dev/null && mv "${parts[@]/#/target/}" target/aside 2>/dev/null
+    prove_program
+    status=$?
+    if [ "$status" -ne 0 ]; then
+        rm -rf "${parts[@]/#/target/}" 2>/dev/null
+        mv target/aside/* target 2>/dev/null
+    fi
+    rm -rf target/aside 2>/dev/null
+    return "$status"
 }
 
 # rt's status, or 2 where rt is content and the program does not work, as one that was half written by a build before.
@@ -57,7 +74,7 @@ prove_program() {
     local status results=("${crates[@]/#/target/log/}")
     [ -w "${TMPDIR:-/tmp}/." ] || unset TMPDIR # rt wants a temporary folder
     rm -f "${results[@]/%/.res}" 2>/dev/null # show_progress reads them
-    rt check logcheck </dev/null 2>&1 | show_progress
+    (trap - PIPE XFSZ && exec rt check logcheck) </dev/null 2>&1 | show_progress
     status=${PIPESTATUS[0]}
     [ "$status" -eq 0 ] || return "$status"
     [ "$(run_program target/bin/logcheck </dev/null)" = 'serial 0' ] || return 2

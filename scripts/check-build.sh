@@ -27,10 +27,11 @@ make_tool uname <<<'cat "$CONTROL/machine"'
 make_tool rt <<'END'
 [ "$1" = check ] || exit 2
 echo "$@" >>"$CONTROL/calls"
-if [ -e "$CONTROL/fails" ]; then seq -f 'fault %g of a long report' 30 >&2; exit 1; fi
+if [ -e "$CONTROL/fails" ]; then seq -f 'fault %g of a long report' 30 >&2; exit "$(cat "$CONTROL/fails")"; fi
 [ -w "${TMPDIR:-/tmp}" ] || exit 2
 mkdir -p target/rlib target/stamp target/log target/bin
-if cmp -s crates/logcheck/src/main.rt target/stamp/logcheck; then exit 0; fi
+cat crates.txt crates/*/src/* >target/sources
+if cmp -s target/sources target/stamp/logcheck; then exit 0; fi
 if [ -e target/rlib/half ]; then echo "the rlib is not as it was written"; exit 2; fi
 echo proved >target/log/sets.res
 echo failed >target/log/logcheck.res
@@ -41,13 +42,14 @@ while [ -e "$CONTROL/holds" ]; do sleep 0.1; done
 echo "echo 'serial 0'" >>target/bin/logcheck
 chmod +x target/bin/logcheck
 rm target/rlib/half
-cp crates/logcheck/src/main.rt target/stamp/logcheck
+cp target/sources target/stamp/logcheck
 END
 
 # A checkout that was never used, and stand-ins that do what they should.
 new_checkout() {
     rm -rf "$checkout" "$CONTROL"
     mkdir -p "$checkout/scripts" "$checkout/crates/"{logcheck,sets}/src "$CONTROL"
+    echo first >"$checkout/crates/sets/src/lib.rt"
     cp -p "$from/logcheck" "$from/VERSION" "$checkout"
     cp -p "$from"/scripts/* "$checkout/scripts"
     printf 'sets:\nlogcheck: sets io\n' >"$checkout/crates.txt"
@@ -106,11 +108,22 @@ check_first_use() {
     touch -d 2000-01-01 "$checkout/crates/logcheck/src/main.rt"
     run logcheck
     built 'another source, with an older date' 2 'up to date'
+    echo second >"$checkout/crates/sets/src/lib.rt"
+    run logcheck
+    built 'another source of a crate below' 3 'up to date'
+    echo '# more' >>"$checkout/crates.txt"
+    run logcheck
+    built 'another list of crates' 4 'up to date'
+    mkdir -p "$checkout/crates/sets/must-fail"
+    echo second >"$checkout/crates/sets/must-fail/second.edit"
+    run logcheck
+    built 'an edit, of which nothing is built' 4
     rm -rf "$checkout/target/command"
     mkdir "$checkout/target/command"
     echo half >"$checkout/target/command/new"
     run env TMPDIR="$room/none" "$checkout/logcheck" </dev/null
-    built 'a copy that was killed half way, and no TMPDIR' 3 'up to date'
+    built 'a copy that was killed half way, and no TMPDIR' 5 'up to date'
+    check 'programs of other sources are left' [ "$(ls "$checkout/target/command" | wc -l)" -eq 1 ]
 }
 
 # One builds; the others wait, say so, and answer.
@@ -198,10 +211,21 @@ cannot() { # WHAT LINES WORDS COMMAND ..
 }
 
 check_failures() {
+    local status_of_rt
+    for status_of_rt in 1 3; do
+        new_checkout
+        echo "$status_of_rt" >"$CONTROL/fails"
+        cannot 'a build that fails' 2 "'rt check logcheck' shows why" logcheck
+        check "a build that fails for a crate, with status $status_of_rt, is done twice" lines 1 "$CONTROL/calls"
+    done
     new_checkout
-    touch "$CONTROL/fails"
-    cannot 'a build that fails' 2 "'rt check logcheck' shows why" logcheck
-    check 'a build that fails for a crate is done twice' lines 1 "$CONTROL/calls"
+    run logcheck
+    rm -rf "$checkout/target/command"
+    echo 2 >"$CONTROL/fails"
+    cannot 'a build that fails for rt itself' 3 "'rt check logcheck' shows why" logcheck
+    rm "$CONTROL/fails"
+    run logcheck
+    built 'the use after rt itself has failed, which finds what was built before' 4 'up to date'
     new_checkout
     echo >"$checkout/target"
     cannot 'a file in the place of target/' 1 '/target cannot be written' logcheck

@@ -29,10 +29,20 @@ without_reader() ( # COMMAND ..
     exec "$@" >&4
 )
 
+without_error_reader() ( # COMMAND ..
+    exec 3<>"$room/pipe" 4>"$room/pipe" 3<&-
+    exec "$@" 2>&4
+)
+
 # Often, since it was a matter of luck.
 read_first_lines() {
     local _
     for _ in {1..40}; do ./logcheck --help | head -n 1; done
+}
+
+# A history that comes byte by byte, so that it is cut at each of its places.
+byte_by_byte() { # HISTORY
+    perl -e '$| = 1; for (split //, shift) { print; select undef, undef, undef, 0.002 }' "$1" | ./logcheck --text
 }
 
 # The text again and again, without an end, for a history.
@@ -60,6 +70,8 @@ check_wrong_calls() {
     refuses 'an option that is not there' "'--wrong'" ./logcheck --wrong
     refuses 'a name with a dash and no --' "'-c7.log'" ./logcheck -c7.log
     refuses 'two histories' 'a history is one, in quotes' ./logcheck --text c0 c1
+    refuses '--version with an argument' 'too many arguments' ./logcheck --version 1
+    refuses '--help with an argument' 'too many arguments' ./logcheck --help logs/p01.log
     refuses 'a name with a line break' "no file \$'a\\nb'" ./logcheck $'a\nb'
     refuses 'a name that is no UTF-8' "no file \$'\\377'" ./logcheck $'\377'
     refuses 'a name that no file can have' "no file 'aaa" ./logcheck "$(repeat 5000 a)"
@@ -131,6 +143,7 @@ check_other_calls() {
         ./logcheck --text $' w_0 [ x_A ]\tw 0[x B]\r\nw0[y , C]c 0 r1[yC] w1[xA] c1 r2[xB] w2[yC] c2\n'
     echo 'c0 c0' >"$room/text"
     answers 'a history on standard input' logs/p14.answer ./logcheck --text <"$room/text"
+    answers 'the highest number that fits into a byte' logs/transaction-64.answer ./logcheck --text 'c255'
     answers 'a history on standard input, by name' logs/p14.answer ./logcheck --text - <"$room/text"
     head -c 20000 /dev/zero >"$room/long"
     answers 'a file of 20,000 bytes' "$too_long" ./logcheck "$room/long"
@@ -144,6 +157,30 @@ check_other_calls() {
     refuses 'a copy of the command' 'a copy without its repository' "$room/copy" logs/h1.log
     answers 'the command by sh' logs/h1.answer sh ./logcheck logs/h1.log
     answers 'the command by bash' logs/h1.answer bash ./logcheck logs/h1.log
+    answers 'the command by bash -e' logs/c7.answer bash -e ./logcheck logs/c7.log
+}
+
+# A history in letters has the bytes of the same history in numbers, and the script that prints them has messages of its own.
+check_bytes() {
+    local letter number=0 letters='' numbers=''
+    for letter in x y z {a..w}; do
+        letters+="w0[${letter}A] " numbers+="w0[$((number++)),0] "
+    done
+    number=0
+    for letter in {A..P}; do
+        letters+="r0[x$letter] " numbers+="r0[0,$((number++))] "
+    done
+    scripts/log-from-text.sh "$numbers" >"$room/numbers"
+    check 'items and sites in letters have other bytes than in numbers' cmp "$room/numbers" <(scripts/log-from-text.sh "$letters")
+    check 'a record has other than 4 bytes' [ "$(wc -c <"$room/numbers")" -eq $((42 * 4)) ]
+    answers 'a history that comes byte by byte' logs/h1.answer byte_by_byte 'w0[0,0] w0[x, B] w 0 [1 C]c0 r1[yC] w1[x0] c1 r2[xB] w2[yC] c2 '
+    refuses 'a wrong word that comes byte by byte' "'W0[xA]' is not an operation, but 'w0[xA]' is" byte_by_byte 'c0 W0[xA] c1 '
+    run scripts/log-from-text.sh 'c0 q1'
+    check 'log-from-text.sh: another status or message for what is no history' [ "$status $(wc -c <"$room/out") $(cut -c 1-14 "$room/err")" = '3 0 log-from-text:' ]
+    run without_input scripts/log-from-text.sh
+    check 'log-from-text.sh: no standard input' [ "$status $(<"$room/err")" = '3 log-from-text: standard input is closed' ]
+    run into_full scripts/log-from-text.sh c0
+    check 'log-from-text.sh: a full disk' [ "$status $(<"$room/err")" = '3 log-from-text: standard output cannot be written' ]
 }
 
 check_hints() {
@@ -165,6 +202,8 @@ check_hints() {
     check 'a log to --text: a hint' grep -qF 'a log is judged without --text' "$room/err"
     refuses 'a capital letter for a kind' "'W0[xA]' is not an operation, but 'w0[xA]' is" ./logcheck --text 'W0[xA] c0'
     refuses 'capital and small letters exchanged' "'w0[Xa]' is not an operation, but 'w0[xA]' is" ./logcheck --text 'w0[Xa] c0'
+    refuses 'a capital letter and a number that fits into no byte' "'W256[xA]' is not an operation" ./logcheck --text 'W256[xA] c0'
+    check 'a number that fits into no byte has a hint' lacks w256 "$room/err"
     refuses 'a capital letter for a commit' "'C0' is not an operation, but 'c0' is" ./logcheck --text 'w0[xA] C0'
 }
 
@@ -182,6 +221,8 @@ check_closed() {
     refuses 'no standard output for a history' 'standard output is closed' without_output ./logcheck --text c7
     refuses 'no standard output for --help' 'standard output is closed' without_output ./logcheck --help
     check '--help, and no standard input' without_input ./logcheck --help
+    run without_error_reader ./logcheck "$room/none"
+    check 'a reader of standard error that is gone: another status than 3' [ "$status" -eq 3 ]
     run without_errors ./logcheck "$room/none"
     check 'neither a file nor standard error: another status than 3' [ "$status" -eq 3 ]
 }
@@ -250,6 +291,7 @@ check_wrong_histories
 check_places
 check_long_histories
 check_other_calls
+check_bytes
 check_hints
 check_closed
 check_unlucky

@@ -2,11 +2,9 @@
 # Holds docs/example.c and docs/example.rs to their own first comments: to the lines with a `>`, which are what they print; to the command
 # that builds and runs them; and to the compiler's line for who links the library in a build of their own. It prints a line for each
 # failure, and `N passed, M failed` at the end.
-set -u
-cd "$(dirname "$0")/.." || exit 1
+. "$(dirname "$0")/checks.sh"
 . scripts/x86-64.sh
 . scripts/x86-c.sh
-. scripts/count.sh
 
 # What stands behind this front in the lines of an example's first comment.
 comment() { # ENDING FRONT

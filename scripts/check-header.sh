@@ -3,11 +3,9 @@
 # functions of the header are those that the library exports; and the library keeps and allocates nothing, as the header says. Then mistakes
 # are made in copies of the header, each of which has to make the program fail: not compile, or have a wrong answer. It prints a line for
 # each failure, and `N passed, M failed` at the end.
-set -u
-cd "$(dirname "$0")/.." || exit 1
+. "$(dirname "$0")/checks.sh"
 . scripts/x86-64.sh
 . scripts/x86-c.sh
-. scripts/count.sh
 ulimit -c 0 # a wrong header may crash the program
 
 strict=(-Wall -Wextra -Werror)

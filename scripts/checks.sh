@@ -1,4 +1,4 @@
-# What the scripts that check ./logcheck share. To be sourced first; goes to the repository's folder, counts by scripts/count.sh, and gives
+# What the scripts that check something share. To be sourced first; goes to the repository's folder, counts by scripts/count.sh, and gives
 #   run COMMAND ..                 runs a command, and keeps what it prints in the room, as out and err, and its status as `status`
 #   answers WHAT FILE COMMAND ..   counts one that must print just what is in FILE, nothing on standard error, and have the status of that answer
 #   hints WHAT FILE TEXT COMMAND   the same, with one line on standard error that has TEXT in it

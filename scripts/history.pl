@@ -9,7 +9,7 @@
 #
 # The log is printed as octal escapes for printf, four to a record, since a variable of the shell holds no zero byte. Where there is no
 # history, one line is printed instead that says why, and the status is 3. A wrong word has its record (from 0, as the checker's places)
-# and its first character (from 1), or its line and column where the history has several lines.
+# and its first character (from 1), or its line and column where several lines were read: a pipe may bring them one by one.
 #
 # The text is read as far as it matters, and each part of it once: up to one operation more than a log can have, which the checker
 # refuses whatever follows, up to the first wrong word, or up to a bound on its characters. So an input without an end has an answer.
@@ -111,6 +111,12 @@ sub skip_blanks {
     $at = pos $text;
 }
 
+# The word that stands next is there up to its end.
+sub word_ends {
+    pos($text) = $at;
+    return $text =~ /\G[^\s\]]*+[\s\]]/;
+}
+
 # What can be said of the word that stands next, which is no operation.
 sub refuse_word {
     pos($text) = $at;
@@ -119,8 +125,10 @@ sub refuse_word {
     if ($text =~ /\G[rw]$gap$number$gap\[$gap$number$gap\]/) {
         wrong($word, "$is_not: a comma or a blank must part two numbers");
     }
-    if (my ($c, $alone, $rw, $transaction, $item, $site) = $text =~ /\G$operation/i) {
-        my $meant = defined $c ? lc($c) . $alone : lc($rw) . $transaction . '[' . lc($item) . ',' . uc($site) . ']';
+    my ($c, $alone, $rw, $transaction, $item, $site) = $text =~ /\G$operation/i;
+    my @parts = defined $c ? $alone : defined $rw ? ($transaction, lc $item, uc $site) : ();
+    if (@parts > 0 && !grep { !defined byte_of($_) } @parts) {
+        my $meant = defined $c ? "c$alone" : lc($rw) . "$parts[0]\[$parts[1],$parts[2]]";
         $meant =~ s/,// if $meant =~ /[a-z],|,[A-P]/;
         wrong($word, "$is_not, but " . quoted($meant) . ' is (kinds and items are small letters, sites capital ones)');
     }
@@ -133,7 +141,8 @@ sub read_more {
     if (length $text > $MOST_CHARACTERS) {
         stop("the history is too long: more than $MOST_CHARACTERS characters, with $records operations in them");
     }
-    my $got = sysread STDIN, $text, $CHUNK, length $text;
+    my $room = $MOST_CHARACTERS + 1 - length $text;
+    my $got = sysread STDIN, $text, $room < $CHUNK ? $room : $CHUNK, length $text;
     stop("standard input cannot be read: $!") if !defined $got;
     $whole = $got == 0;
 }
@@ -144,7 +153,10 @@ while (1) {
     last if $records > $MOST_RECORDS;
     skip_blanks();
     pos($text) = $at;
-    refuse_word() if $at < length $text && ($whole || $text !~ /\G$begun/);
+    if ($at < length $text && ($whole || $text !~ /\G$begun/)) {
+        read_more() until $whole || length $text > $MOST_CHARACTERS || word_ends();
+        refuse_word();
+    }
     last if $whole;
     read_more();
 }

@@ -8,6 +8,7 @@
 # the emulator says nothing.
 # shellcheck shell=bash
 
+unset "${!DPKG_@}" # a caller's, for another system's packages
 x86_target=x86_64-unknown-linux-gnu
 
 if [ "$(uname -m)" = x86_64 ]; then
