@@ -212,17 +212,17 @@ cannot() { # WHAT LINES WORDS COMMAND ..
 
 check_failures() {
     local status_of_rt
-    for status_of_rt in 1 3; do
-        new_checkout
-        echo "$status_of_rt" >"$CONTROL/fails"
-        cannot 'a build that fails' 2 "'rt check logcheck' shows why" logcheck
-        check "a build that fails for a crate, with status $status_of_rt, is done twice" lines 1 "$CONTROL/calls"
-    done
     new_checkout
-    run logcheck
-    rm -rf "$checkout/target/command"
-    echo 2 >"$CONTROL/fails"
-    cannot 'a build that fails for rt itself' 3 "'rt check logcheck' shows why" logcheck
+    echo 1 >"$CONTROL/fails"
+    cannot 'a first build that fails' 2 "'rt check logcheck' shows why" logcheck
+    for status_of_rt in 1 3 2; do # the last one is of rt itself
+        new_checkout
+        run logcheck
+        rm -rf "$checkout/target/command"
+        echo "$status_of_rt" >"$CONTROL/fails"
+        cannot "a build that fails with status $status_of_rt" $((2 + (status_of_rt == 2))) "'rt check logcheck' shows why" logcheck
+        check "how often a build is tried that fails with status $status_of_rt" lines $((2 + (status_of_rt == 2))) "$CONTROL/calls"
+    done
     rm "$CONTROL/fails"
     run logcheck
     built 'the use after rt itself has failed, which finds what was built before' 4 'up to date'
