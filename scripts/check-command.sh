@@ -128,6 +128,8 @@ check_long_histories() {
     answers 'operations without an end' "$too_long" endless 'c0 '
     refuses 'blanks without an end' 'too long: more than 1048576 characters, with 0 operations' endless ' '
     refuses 'a number without an end' 'too long: more than 1048576 characters, with 1 operations' endless 1 'c0 c'
+    { repeat 1048576 ' ' && repeat 4097 'c0 '; } >"$room/text"
+    refuses 'operations behind the bound' 'too long: more than 1048576 characters, with 0 operations' ./logcheck --text <"$room/text"
     refuses 'blanks in an operation without an end' 'too long' endless ' ' 'w0['
     refuses 'wrong words without an end' "record 0, character 1: 'qqq" endless q
     repeat 5000 'w0[10,10]' >"$room/text" # bytes that are line ends, and a program that stops reading
