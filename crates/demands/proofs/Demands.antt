@@ -12,7 +12,7 @@ use Rattle.sets.specs.Bits.{has, in-row}
 use Rattle.sets.specs.Paths.{Acyclic}
 use Rattle.format.specs.Answer.{Answer, gives, refused, passed}
 use Rattle.format.specs.Record.{transactions, in-log}
-use Rattle.format.proofs.Answers.{never-both, said-number, said-place}
+use Rattle.format.proofs.Answers.{never-both}
 use Rattle.log.specs.Refusal.{check-answer}
 use Rattle.log.proofs.Passed.{passed-low}
 use Rattle.log.proofs.Table.{passes-exactly, given-exactly}
@@ -22,7 +22,7 @@ use Rattle.edges.specs.Promises.{GivesGraph}
 use Rattle.edges.specs.declared.graph.Graph.{Graph}
 use Rattle.edges.proofs.Graphs.{edges-hold, members-hold}
 use Rattle.edges.proofs.Chapter.{acyclic-is-RDSG, extends-SG, induces-write-order}
-use Rattle.edges.proofs.Questions.{graph-refused, graph-given}
+use Rattle.edges.proofs.Questions.{graph-refused, graph-given, refused-graph, given-graph}
 use Rattle.sort.specs.Rule.{LineOrCycle, line, cycle, members-of, length-of}
 use Rattle.sort.specs.Lines.{stands-before, Line, SmallestLine, Cycle, FromLowest, Means, edge-within}
 use Rattle.sort.proofs.Chosen.{within-edge}
@@ -337,21 +337,13 @@ graph-exactly log old g new promised =
     }
   where
     passes : (set : ℕ) → graph-says g ≡ gives set → check-answer log ≡ passed
-    passes set h = go (check-answer log) refl
-      where
-        go : (a : Answer (Unit {0})) → check-answer log ≡ a → check-answer log ≡ passed
-        go (gives tt) e = e
-        go (refused n p) e = absurd (never-both set n p (sym (graph-refused log e) ∙ sym (promised .says) ∙ h))
+    passes set h = given-graph log set (sym (promised .says) ∙ h)
+
+    refuses : (n p : ℕ) → graph-says g ≡ refused n p → check-answer log ≡ refused n p
+    refuses n p h = refused-graph log n p (sym (promised .says) ∙ h)
 
     gives-members : check-answer log ≡ passed → graph-says g ≡ gives (members log)
     gives-members ok = promised .says ∙ graph-given log ok
-
-    refuses : (n p : ℕ) → graph-says g ≡ refused n p → check-answer log ≡ refused n p
-    refuses n p h = go (check-answer log) refl
-      where
-        go : (a : Answer (Unit {0})) → check-answer log ≡ a → check-answer log ≡ refused n p
-        go (gives tt) e = absurd (never-both (members log) n p (sym h ∙ gives-members e))
-        go (refused m q) e = let same = sym (promised .says ∙ graph-refused log e) ∙ h in e ∙ ap₂ refused (ap said-number same) (ap said-place same)
 
     -- what the table holds goes by the check's answer
     left-by : {a : Answer (Unit {0})} → check-answer log ≡ a → new ≡ unless-refused a (edge-table log) old

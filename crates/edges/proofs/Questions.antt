@@ -6,6 +6,7 @@ use borrow.Author.Tests.{le-leb, lt-leb}
 use lib.Dec.{leb}
 use Rattle.sets.proofs.Truth.{or-hit-right}
 use Rattle.format.specs.Answer.{gives, refused, passed}
+use Rattle.format.proofs.Answers.{then-refused, then-given}
 use Rattle.format.specs.Record.{transactions}
 use Rattle.log.specs.Refusal.{check-answer}
 use Rattle.edges.specs.Reasons.{reason, edge-answer, members, graph-answer}
@@ -18,6 +19,15 @@ module _ (log : List ℕ) where
   pub graph-given : check-answer log ≡ passed → graph-answer log ≡ gives (members log)
   unfolding graph-answer
   graph-given h = rw h refl
+
+  -- and back: what the check has said
+  pub refused-graph : (n p : ℕ) → graph-answer log ≡ refused n p → check-answer log ≡ refused n p
+  unfolding graph-answer
+  refused-graph n p h = then-refused (check-answer log) (members log) n p h
+
+  pub given-graph : (set : ℕ) → graph-answer log ≡ gives set → check-answer log ≡ passed
+  unfolding graph-answer
+  given-graph set h = then-given (check-answer log) (members log) set h
 
   module _ (i j : ℕ) where
     pub edge-refused : {n p : ℕ} → check-answer log ≡ refused n p → edge-answer log i j ≡ refused n p

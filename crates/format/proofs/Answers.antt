@@ -1,6 +1,6 @@
 -- Laws of answers in order: what it takes to pass, and which refusal is given. Assumes nothing.
 use Prim.Native.Nat.{ℕ}
-use mathlib.Core.Path.{_≡_, refl, ap}
+use mathlib.Core.Path.{_≡_, refl, sym, ap, ap₂}
 use mathlib.Core.Bool.{Bool, true, false, true≢false}
 use Rattle.format.specs.Answer.{Answer, gives, refused, passed, row, _then_}
 
@@ -39,3 +39,12 @@ said-number (refused n p) = n
 abbrev pub said-place : {A : Type 0} → Answer A → ℕ
 said-place (gives a) = 0
 said-place (refused n p) = p
+
+-- where what comes last is always given, a refusal is that of the checks before it, and what is given has passed them
+pub then-refused : {A : Type 0} (a : Answer (Unit {0})) (x : A) (n p : ℕ) → (a then gives x) ≡ refused n p → a ≡ refused n p
+then-refused (gives tt) x n p e = absurd (never-both x n p (sym e))
+then-refused (refused m q) x n p e = ap₂ refused (ap said-number e) (ap said-place e)
+
+pub then-given : {A : Type 0} (a : Answer (Unit {0})) (x y : A) → (a then gives x) ≡ gives y → a ≡ passed
+then-given (gives tt) x y e = refl
+then-given (refused n p) x y e = absurd (never-both y n p e)

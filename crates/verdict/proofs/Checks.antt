@@ -1,12 +1,12 @@
 -- The order of the verdict's refusals, case by case, and what follows from each. The only file that opens `verdict-check` and
 -- `verdict-answer`. Assumes nothing.
 use Prim.Native.Nat.{ℕ, _<_, _≤_}
-use mathlib.Core.Path.{_≡_, refl, _∙_, sym, ap, ap₂}
+use mathlib.Core.Path.{_≡_, refl, _∙_}
 use mathlib.Core.List.{List}
 use mathlib.Core.Bool.{true, false}
 use borrow.Author.Tests.{lt-ltb, le-ltb, ltb-true, ltb-false}
-use Rattle.format.specs.Answer.{Answer, gives, refused, passed, row, _then_}
-use Rattle.format.proofs.Answers.{then-left, then-right, row-fails, passed-then, never-both, said-number, said-place}
+use Rattle.format.specs.Answer.{gives, refused, passed, row, _then_}
+use Rattle.format.proofs.Answers.{then-left, then-right, row-fails, passed-then, then-refused}
 use Rattle.log.specs.Refusal.{length-answer, content-answer, check-answer}
 use Rattle.log.proofs.Table.{both-pass, lengths-pass, content-passes}
 use Rattle.verdict.specs.Verdict.{most-answer, short-buffer, verdict-check, line-or-cycle, verdict-answer}
@@ -67,13 +67,10 @@ module _ (log : List ℕ) (room : ℕ) where
   unfolding verdict-answer
   answer-given h = passed-then (verdict-check log room) (gives (line-or-cycle log)) h
 
-  -- and back: which check had refused, or that none had
+  -- and back: which check had refused
   pub refused-check : (n p : ℕ) → verdict-answer log room ≡ refused n p → verdict-check log room ≡ refused n p
-  refused-check n p h = go (verdict-check log room) refl
-    where
-      go : (a : Answer (Unit {0})) → verdict-check log room ≡ a → verdict-check log room ≡ refused n p
-      go (gives u) e = absurd (never-both (line-or-cycle log) n p (sym h ∙ answer-given e))
-      go (refused m q) e = let same = sym (answer-refused e) ∙ h in e ∙ ap₂ refused (ap said-number same) (ap said-place same)
+  unfolding verdict-answer
+  refused-check n p h = then-refused (verdict-check log room) (line-or-cycle log) n p h
 
   pub passes-with-room : check-answer log ≡ passed → most-answer ≤ room → verdict-check log room ≡ passed
   passes-with-room h l = by-content (lengths-pass log h) (roomy room l) ∙ content-passes log h
