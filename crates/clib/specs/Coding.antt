@@ -4,7 +4,7 @@ use Prim.Native.Nat.{ℕ}
 use mathlib.Core.Option.{Option, none, some}
 use Rattle.format.specs.Answer.{Answer, gives, refused}
 use Rattle.format.specs.Record.{transactions}
-use Rattle.sort.specs.Rule.{LineOrCycle, line, cycle}
+use Rattle.lines.specs.Rule.{LineOrCycle, line, cycle}
 use Rattle.clib.specs.declared.Coded.{Coded}
 use Rattle.clib.specs.declared.CodedSorted.{CodedSorted}
 use Rattle.clib.specs.declared.CodedVerdict.{CodedVerdict}

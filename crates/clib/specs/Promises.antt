@@ -8,7 +8,7 @@ use lib.Seq.{sets}
 use Rattle.log.specs.Refusal.{check-answer}
 use Rattle.log.specs.Source.{source-answer}
 use Rattle.edges.specs.Reasons.{edge-answer}
-use Rattle.sort.specs.Rule.{members-of, length-of}
+use Rattle.lines.specs.Rule.{members-of, length-of}
 use Rattle.sort.specs.Promises.{sorted-table}
 use Rattle.verdict.specs.Verdict.{verdict-answer, how-many}
 use Rattle.verdict.specs.Promises.{LeavesRecords}

@@ -10,6 +10,7 @@ use lib.ListN.{length, drop, List·getD-append}
 use lib.Seq.{sets}
 use Rattle.sets.specs.Bits.{has, in-row}
 use Rattle.sets.specs.Paths.{Acyclic}
+use Rattle.sets.proofs.Paths.{precedes-more}
 use Rattle.format.specs.Answer.{Answer, gives, refused, passed}
 use Rattle.format.specs.Record.{transactions, in-log}
 use Rattle.format.proofs.Answers.{never-both}
@@ -23,12 +24,12 @@ use Rattle.edges.specs.declared.graph.Graph.{Graph}
 use Rattle.edges.proofs.Graphs.{edges-hold, members-hold}
 use Rattle.edges.proofs.Chapter.{acyclic-is-RDSG, extends-SG, induces-write-order}
 use Rattle.edges.proofs.Questions.{graph-refused, graph-given, refused-graph, given-graph}
-use Rattle.sort.specs.Rule.{LineOrCycle, line, cycle, members-of, length-of}
-use Rattle.sort.specs.Lines.{stands-before, Line, SmallestLine, Cycle, FromLowest, Means, edge-within}
-use Rattle.sort.proofs.Chosen.{within-edge}
-use Rattle.sort.proofs.Determined.{line-of, cycle-of}
-use Rattle.sort.proofs.Placing.{line-length, line-acyclic}
-use Rattle.sort.proofs.Rings.{cycle-precedes}
+use Rattle.lines.specs.Rule.{LineOrCycle, line, cycle, members-of, length-of}
+use Rattle.lines.specs.Lines.{stands-before, Line, SmallestLine, Cycle, FromLowest, Means, edge-within}
+use Rattle.lines.proofs.Chosen.{within-edge}
+use Rattle.lines.proofs.Outcomes.{line-of, cycle-of}
+use Rattle.lines.proofs.Placing.{line-length, line-acyclic}
+use Rattle.lines.proofs.Rings.{cycle-precedes}
 use Rattle.verdict.specs.Verdict.{record-size, most-answer, entry, pairs, round-to, verdict-check, line-or-cycle, verdict-answer}
 use Rattle.verdict.specs.Verdict.{line-records, cycle-records, answer-records, how-many}
 use Rattle.verdict.specs.Numbers.{verdict-says}
@@ -42,7 +43,7 @@ use Rattle.demands.specs.Serial.{SerialLine}
 use Rattle.demands.specs.Reasons.{TrueReason}
 use Rattle.demands.specs.Demands.{Demand1, Demand2, Demand3, LineGiven, CycleGiven, GraphExactly}
 use Rattle.demands.proofs.Refusals.{refused-exactly}
-use Rattle.demands.proofs.Serial.{edge-within-log, precedes-more, serial-exactly, last-writes}
+use Rattle.demands.proofs.Serial.{edge-within-log, serial-exactly, last-writes}
 use Rattle.demands.proofs.Rounds.{linked-round, edge-has-reason}
 
 -- what an answer gives

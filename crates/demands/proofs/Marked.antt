@@ -14,8 +14,8 @@ use Rattle.log.specs.Refusal.{record-answer, records-answer, never-commits, fir
 use Rattle.log.specs.Refusal.{check-answer}
 use Rattle.log.specs.Source.{source-record, source}
 use Rattle.sets.specs.Search.{some-below, some-from, last-below, first-below, without}
-use Rattle.sort.specs.Rule.{predecessor, among, place-of, lowest, to-lowest, walk, ready, next, placed, rest, lowest-predecessor}
-use Rattle.sort.specs.Rule.{cycle-from, sorted}
+use Rattle.lines.specs.Rule.{predecessor, among, place-of, lowest, to-lowest, walk, ready, next, placed, rest, lowest-predecessor}
+use Rattle.lines.specs.Rule.{cycle-from, sorted}
 use Rattle.verdict.specs.Verdict.{short-buffer, verdict-check, line-or-cycle, verdict-answer, pairs, round-to, line-records}
 use Rattle.verdict.specs.Verdict.{cycle-records}
 use Rattle.demands.specs.Marked.{marked, all-given}

@@ -16,7 +16,7 @@ use Rattle.sets.proofs.Truth.{clash}
 use Rattle.edges.specs.Reasons.{conflict, write-order, read-before, edge, lowest, reason}
 use Rattle.edges.proofs.Found.{edge-other, edge-reasons}
 use Rattle.edges.proofs.Graphs.{reason-plain}
-use Rattle.sort.specs.Lines.{Linked}
+use Rattle.lines.specs.Lines.{Linked}
 use Rattle.verdict.specs.Verdict.{entry, round-to}
 use Rattle.verdict.proofs.Records.{round-next, round-back}
 use Rattle.demands.specs.Reasons.{Applies, by-conflict, by-write-order, by-read-before, TrueReason}

@@ -10,10 +10,10 @@ use mathlib.Core.Logic.{_⊎_, inl, inr, ⊎-elim}
 use borrow.Author.Tests.{eq-eqb, ne-eqb}
 use Rattle.sets.specs.Search.{or-else}
 use Rattle.sets.proofs.Truth.{clash}
-use Rattle.sort.specs.Rule.{among}
-use Rattle.sort.specs.Lines.{NoneTwice, stands-before}
-use Rattle.sort.proofs.Lists.{among-nil, among-first, among-later, among-cases}
-use Rattle.sort.proofs.Stands.{stands-first, stands-later, stands-cases, stands-not-itself, stands-through, after-first}
+use Rattle.lines.specs.Rule.{among}
+use Rattle.lines.specs.Lines.{NoneTwice, stands-before}
+use Rattle.lines.proofs.Lists.{among-nil, among-first, among-later, among-cases}
+use Rattle.lines.proofs.Stands.{stands-first, stands-later, stands-cases, stands-not-itself, stands-through, after-first}
 use Rattle.demands.specs.Serial.{before, last-of}
 
 -- what stands before j: its clauses

@@ -10,8 +10,9 @@ use mathlib.Core.Option.{Option, none, some}
 use mathlib.Core.Logic.{_⊎_, inl, inr, ⊎-elim, _↔_}
 use borrow.Author.Tests.{eq-eqb}
 use Rattle.sets.specs.Search.{last-below}
-use Rattle.sets.specs.Paths.{Precedes, by-edge, edge-then, Acyclic}
+use Rattle.sets.specs.Paths.{Acyclic}
 use Rattle.sets.proofs.Truth.{clash, either, and-left, and-right}
+use Rattle.sets.proofs.Paths.{precedes-more}
 use Rattle.sets.proofs.Searches.{Last, last-none, last-some, last-view}
 use Rattle.format.specs.Answer.{passed}
 use Rattle.format.specs.Record.{records, transaction, item, is-by, is-read, is-write, copy-of, copy-number}
@@ -29,11 +30,11 @@ use Rattle.edges.proofs.Conflicts.{use-of-read, use-of-write, conflicts-with-wr
 use Rattle.edges.proofs.Found.{InConflict, ReadBefore, conflict-hit, conflict-found, write-order-found, read-before-found, edge-other, edge-reasons}
 use Rattle.edges.proofs.Graphs.{edge-in-log}
 use Rattle.edges.proofs.Chapter.{conflict-edge, ordered-edge, reader-edge, extends-SG, source-writes, lemma-8-1}
-use Rattle.sort.specs.Rule.{among}
-use Rattle.sort.specs.Lines.{edge-within, stands-before, Line}
-use Rattle.sort.proofs.Chosen.{is-within, within-edge}
-use Rattle.sort.proofs.Stands.{stands-not-itself, stands-through}
-use Rattle.sort.proofs.Placing.{line-acyclic}
+use Rattle.lines.specs.Rule.{among}
+use Rattle.lines.specs.Lines.{edge-within, stands-before, Line}
+use Rattle.lines.proofs.Chosen.{is-within, within-edge}
+use Rattle.lines.proofs.Stands.{stands-not-itself, stands-through}
+use Rattle.lines.proofs.Placing.{line-acyclic}
 use Rattle.demands.specs.Serial.{before, last-writer, run-writer, last-write, SerialLine, LastWritesKept}
 use Rattle.demands.proofs.Runs.{one-stands-first, LastBefore, last-before-found, last-before-is, LastOf, the-last, last-of-found}
 
@@ -56,12 +57,6 @@ the none = 0
 same-value : (s t : ℕ) → some s ≡ some t → s ≡ t
 unfolding the
 same-value s t e = ap the e
-
--- paths of a smaller graph are paths of a larger one
-pub precedes-more : (small large : ℕ → ℕ → Bool) → ((i j : ℕ) → small i j ≡ true → large i j ≡ true)
-    → (i j : ℕ) → Precedes small i j → Precedes large i j
-precedes-more small large m i j (by-edge h) = by-edge (m i j h)
-precedes-more small large m i j (edge-then {j = k} h p) = edge-then (m i k h) (precedes-more small large m k j p)
 
 -- every edge lies between two transactions in the log
 pub edge-within-log : (log : List ℕ) (i j : ℕ) → edge log i j ≡ true → edge-within (edge log) (in-log log) i j ≡ true

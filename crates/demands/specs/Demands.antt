@@ -17,8 +17,8 @@ use Rattle.edges.specs.Reasons.{edge}
 use Rattle.edges.specs.Numbers.{graph-says}
 use Rattle.edges.specs.Chapter.{serialization-edge, InducesWriteOrder, RDSG}
 use Rattle.edges.specs.declared.graph.Graph.{Graph}
-use Rattle.sort.specs.Rule.{LineOrCycle, line, cycle, sorted, members-of, length-of}
-use Rattle.sort.specs.Lines.{stands-before, Cycle, FromLowest}
+use Rattle.lines.specs.Rule.{LineOrCycle, line, cycle, sorted, members-of, length-of}
+use Rattle.lines.specs.Lines.{stands-before, Cycle, FromLowest}
 use Rattle.verdict.specs.Verdict.{record-size, most-answer, entry, round-to, line-or-cycle, line-records, cycle-records, answer-records}
 use Rattle.verdict.specs.Numbers.{verdict-says}
 use Rattle.verdict.specs.declared.answer.Verdict.{Verdict}

@@ -2,7 +2,7 @@
 use Prim.Native.Nat.{ℕ}
 use mathlib.Core.List.{List, [], _∷_}
 use Rattle.format.specs.Answer.{Answer, gives, refused}
-use Rattle.sort.specs.Rule.{LineOrCycle, line, cycle}
+use Rattle.lines.specs.Rule.{LineOrCycle, line, cycle}
 use Rattle.verdict.specs.Verdict.{most-answer, verdict-answer, answer-records, how-many}
 
 -- "Items x, y, z are 0, 1, 2; sites A to D are 0 to 3."

@@ -11,8 +11,8 @@ use Rattle.format.specs.Record.{sites, records, transaction, item, is-read, cop
 use Rattle.log.specs.Source.{source}
 use Rattle.edges.specs.Order.{writes, comes-before}
 use Rattle.edges.specs.Reasons.{conflicting}
-use Rattle.sort.specs.Rule.{among}
-use Rattle.sort.specs.Lines.{NoneTwice, stands-before, AtMost}
+use Rattle.lines.specs.Rule.{among}
+use Rattle.lines.specs.Lines.{NoneTwice, stands-before, AtMost}
 
 -- what stands in the line before j
 unfoldable pub before : ℕ → List ℕ → List ℕ

@@ -6,3 +6,4 @@ pub mod Tables
 pub mod Passes
 pub mod Counts
 pub mod Lowest
+pub mod Paths

@@ -8,9 +8,9 @@ use mathlib.Core.List.{List}
 use lib.ListN.{length, take, drop, length-append, length-drop}
 use lib.Seq.{sets, slice, take-add, take-take, drop-at, drop-drop, length-take-le}
 use Rattle.sets.specs.Bits.{numbers}
-use Rattle.sort.specs.Rule.{among, place-of, lowest, turned, to-lowest, up-to}
-use Rattle.sort.proofs.Rings.{lowest-in, to-lowest-said}
-use Rattle.sort.proofs.Lists.{place-low}
+use Rattle.lines.specs.Rule.{among, place-of, lowest, turned, to-lowest, up-to}
+use Rattle.lines.proofs.Rings.{lowest-in, to-lowest-said}
+use Rattle.lines.proofs.Lists.{place-low}
 use Rattle.sort.proofs.Parts.{sets-append, place-in}
 
 -- a part of m from `at` on

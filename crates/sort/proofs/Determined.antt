@@ -9,40 +9,21 @@ use lib.ListN.{length, drop}
 use lib.Seq.{sets, sets-eq}
 use Rattle.sets.specs.Bits.{numbers, has, in-row}
 use Rattle.sets.proofs.Members.{has-low}
-use Rattle.sort.specs.Rule.{LineOrCycle, line, cycle, members-of, length-of}
-use Rattle.sort.specs.Lines.{Below, Means}
+use Rattle.lines.specs.Rule.{members-of}
+use Rattle.lines.specs.Lines.{Below, Means}
 use Rattle.sort.specs.Numbers.{sorted-says}
 use Rattle.sort.specs.Promises.{SortsTable, sorted-table}
 use Rattle.sort.specs.declared.Sorted.{Sorted}
 use Rattle.sort.specs.declared.Sorted.the-variants.{Line, Cycle}
-use Rattle.sort.proofs.Sorts.{sorted-means, means-fit}
+use Rattle.lines.proofs.Outcomes.{count-of, line-not-cycle}
+use Rattle.lines.proofs.Sorts.{sorted-means, means-fit}
 
--- the number of a line or a cycle, and which of the two it is
-abbrev count-of : LineOrCycle ℕ → ℕ
-count-of (line n) = n
-count-of (cycle n) = n
-
-abbrev kind-of : LineOrCycle ℕ → ℕ
-kind-of (line n) = 0
-kind-of (cycle n) = 1
-
-differ : (a b : LineOrCycle ℕ) → (kind-of a ≡ kind-of b → ⊥) → a ≡ b → ⊥
-differ a b q e = q (ap kind-of e)
-
+-- the code's answer is told by what it says
 pub same-sorted : (a b : Sorted) → sorted-says a ≡ sorted-says b → a ≡ b
 same-sorted (Line m) (Line n) e = ap Line (ap count-of e)
-same-sorted (Line m) (Cycle n) e = absurd (differ (line m) (cycle n) (λ z. omega (arith, z)) e)
-same-sorted (Cycle m) (Line n) e = absurd (differ (cycle m) (line n) (λ z. omega (arith, z)) e)
+same-sorted (Line m) (Cycle n) e = absurd (line-not-cycle m n e)
+same-sorted (Cycle m) (Line n) e = absurd (line-not-cycle n m (sym e))
 same-sorted (Cycle m) (Cycle n) e = ap Cycle (ap count-of e)
-
--- what has the length of a line is one, and so for a cycle
-pub line-of : (n : ℕ) (o : LineOrCycle (List ℕ)) → line n ≡ length-of o → (o ≡ line (members-of o)) × (n ≡ length (members-of o))
-line-of n (line xs) e = (refl, ap count-of e)
-line-of n (cycle xs) e = absurd (differ (line n) (cycle (length xs)) (λ z. omega (arith, z)) e)
-
-pub cycle-of : (n : ℕ) (o : LineOrCycle (List ℕ)) → cycle n ≡ length-of o → (o ≡ cycle (members-of o)) × (n ≡ length (members-of o))
-cycle-of n (line xs) e = absurd (differ (cycle n) (line (length xs)) (λ z. omega (arith, z)) e)
-cycle-of n (cycle xs) e = (refl, ap count-of e)
 
 -- THEOREM: any two answers that `sort` promises for a table, a set and a buffer are equal, and so are the buffers left
 pub sort-determined : (table : List ℕ) (set : ℕ) (old : List ℕ) (a b : Sorted) (left right : List ℕ)

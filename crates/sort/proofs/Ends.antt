@@ -11,11 +11,11 @@ use lib.Seq.{sets, slice, sets-eq, take-at}
 use Rattle.sets.specs.Bits.{numbers}
 use Rattle.sets.proofs.From.{FirstFrom}
 use Rattle.sets.specs.Search.{without}
-use Rattle.sort.specs.Rule.{among, next, placed, rest, lowest-predecessor, walk, to-lowest, sorted, line, cycle}
+use Rattle.lines.specs.Rule.{among, next, placed, rest, lowest-predecessor, walk, to-lowest, sorted, line, cycle}
 use Rattle.sort.specs.Kept.{Blocked, back}
-use Rattle.sort.proofs.Chosen.{predecessor-left, lowest-is}
-use Rattle.sort.proofs.Clauses.{placed-zero, placed-none, placed-some, sorted-line, sorted-cycle, walk-zero, walk-lost}
-use Rattle.sort.proofs.Clauses.{walk-ends, walk-goes}
+use Rattle.lines.proofs.Chosen.{predecessor-left, lowest-is}
+use Rattle.lines.proofs.Clauses.{placed-zero, placed-none, placed-some, sorted-line, sorted-cycle, walk-zero, walk-lost}
+use Rattle.lines.proofs.Clauses.{walk-ends, walk-goes}
 
 -- two walks that go the same way from each of a set, and never leave it
 pub walk-same : (f g : ℕ → Option ℕ) (p : ℕ → Bool) → ((t : ℕ) → p t ≡ true → f t ≡ g t)

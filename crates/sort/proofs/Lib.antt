@@ -1,10 +1,3 @@
-pub mod Lists
-pub mod Stands
-pub mod Chosen
-pub mod Clauses
-pub mod Placing
-pub mod Rings
-pub mod Sorts
 pub mod Waits
 pub mod Parts
 pub mod Runs

@@ -9,9 +9,9 @@ use mathlib.Core.List.{List, [], _∷_, _++_}
 use native.Mathlib.Decide.{ℕ-discrete}
 use lib.ListN.{length, take, drop, getD, set, length-drop}
 use lib.Seq.{sets, slice, length-slice, slice-empty, take-suc, getD-take, getD-drop, drop-append-le, length-take-le}
-use Rattle.sort.specs.Rule.{among, place-of, lowest}
-use Rattle.sort.proofs.Lists.{place-low, place-entry, place-is, place-before, among-entry}
-use Rattle.sort.proofs.Rings.{lowest-in, lowest-low}
+use Rattle.lines.specs.Rule.{among, place-of, lowest}
+use Rattle.lines.proofs.Lists.{place-low, place-entry, place-is, place-before, among-entry}
+use Rattle.lines.proofs.Rings.{lowest-in, lowest-low}
 
 -- a list written after another
 pub sets-append : (xs ys to : List ℕ) (at : ℕ) → sets to at (xs ++ ys) ≡ sets (sets to at xs) (at + length xs) ys

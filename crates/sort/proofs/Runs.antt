@@ -11,9 +11,9 @@ use lib.Seq.{sets}
 use Rattle.sets.specs.Bits.{numbers}
 use Rattle.sets.specs.Search.{count-below, without}
 use Rattle.sets.proofs.Counts.{count-low, count-some, count-without}
-use Rattle.sort.specs.Rule.{next, placed, rest}
-use Rattle.sort.proofs.Chosen.{next-is}
-use Rattle.sort.proofs.Clauses.{placed-none, placed-some, rest-none, rest-some}
+use Rattle.lines.specs.Rule.{next, placed, rest}
+use Rattle.lines.proofs.Chosen.{next-is}
+use Rattle.lines.proofs.Clauses.{placed-none, placed-some, rest-none, rest-some}
 
 module _ (edge : ℕ → ℕ → Bool) (all : ℕ → Bool) (blank : List ℕ) where
   -- `count` of the set have been placed in the line, and `more` places can follow

@@ -3,23 +3,28 @@
 use Prim.Native.Nat.{ℕ, _+_, _<_}
 use native.Mathlib.Omega.{arith}
 use native.Mathlib.Decide.{ℕ-discrete, decLt}
-use mathlib.Core.Path.{_≡_, refl, sym, _∙_, ap, subst}
-use mathlib.Core.Bool.{Bool, true, false, not}
+use mathlib.Core.Path.{_≡_, refl, sym, _∙_, ap, subst, fun-ext}
+use mathlib.Core.Bool.{Bool, true, false, _&&_, not}
 use mathlib.Core.List.{List}
 use mathlib.Core.Option.{none, some}
+use lib.Dec.{eqb}
 use lib.ListN.{length, getD, set, length-set}
 use lib.Seq.{getD-set-same, getD-set-other}
-use Rattle.sets.specs.Bits.{numbers}
+use Rattle.sets.specs.Bits.{numbers, has}
 use Rattle.sets.specs.Search.{first-from, without}
 use Rattle.sets.proofs.Truth.{clash, refuted}
 use Rattle.sets.proofs.From.{FirstFrom, first-from-view}
-use Rattle.sets.proofs.Counts.{is-another, passed-before}
-use Rattle.sort.specs.Rule.{predecessor, ready, next, lowest-predecessor}
+use Rattle.sets.proofs.Counts.{is-another, passed-before, without-said}
+use Rattle.lines.specs.Rule.{predecessor, ready, next, lowest-predecessor}
 use Rattle.sort.specs.Kept.{Kept, Searched}
-use Rattle.sort.proofs.Chosen.{is-ready, not-ready-out, not-ready-waits, next-hit, none-next, lowest-hit, lowest-is}
-use Rattle.sort.proofs.Chosen.{is-predecessor, not-predecessor, no-edge-none, predecessor-left}
-use Rattle.sort.proofs.Chosen.{predecessor-other}
-use Rattle.sort.proofs.Chosen.{predecessor-edge}
+use Rattle.lines.proofs.Chosen.{is-ready, not-ready-out, not-ready-waits, next-hit, none-next, lowest-hit, lowest-is}
+use Rattle.lines.proofs.Chosen.{is-predecessor, not-predecessor, no-edge-none, predecessor-left}
+use Rattle.lines.proofs.Chosen.{predecessor-other}
+use Rattle.lines.proofs.Chosen.{predecessor-edge}
+
+-- a set with one taken out, as the rule has it
+pub taken : (left fewer t : ℕ) → ((s : ℕ) → has fewer s ≡ (has left s && not (eqb t s))) → has fewer ≡ without (has left) t
+taken left fewer t h = fun-ext (λ s. h s ∙ without-said (has left) t s)
 
 -- what a search from k on found
 pub found-from : (p : ℕ → Bool) (k r : ℕ) → r ≡ first-from k numbers p → FirstFrom p k numbers r

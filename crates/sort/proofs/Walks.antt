@@ -14,11 +14,11 @@ use Rattle.sets.specs.Bits.{numbers, has}
 use Rattle.sets.proofs.Truth.{clash, or-swap}
 use Rattle.sets.proofs.Members.{has-zero}
 use Rattle.sets.proofs.Counts.{count-low}
-use Rattle.sort.specs.Rule.{among, walk, up-to}
-use Rattle.sort.specs.Lines.{NoneTwice}
+use Rattle.lines.specs.Rule.{among, walk, up-to}
+use Rattle.lines.specs.Lines.{NoneTwice}
 use Rattle.sort.specs.Kept.{back}
-use Rattle.sort.proofs.Lists.{among-nil, among-cons, among-cases, pigeonhole}
-use Rattle.sort.proofs.Clauses.{walk-steps}
+use Rattle.lines.proofs.Lists.{among-nil, among-cons, among-cases, pigeonhole}
+use Rattle.lines.proofs.Clauses.{walk-steps}
 
 -- a buffer with one put before the path
 front : (path : List ℕ) (at t : ℕ) → length path ≡ numbers → at < numbers → drop at (set path at t) ≡ t ∷ drop (suc at) path

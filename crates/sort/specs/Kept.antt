@@ -6,7 +6,7 @@ use mathlib.Core.List.{List, [], _∷_}
 use mathlib.Core.Option.{Option, some}
 use lib.ListN.{length, getD}
 use Rattle.sets.specs.Bits.{numbers}
-use Rattle.sort.specs.Rule.{predecessor, lowest-predecessor, walk}
+use Rattle.lines.specs.Rule.{predecessor, lowest-predecessor, walk}
 
 -- 64 places, in each a transaction
 pub record Kept (waits : List ℕ) : Type 0 where

@@ -1,7 +1,7 @@
 -- What the code's answers say, in the words of the rule.
 use Prim.Native.Nat.{ℕ}
 use mathlib.Core.Option.{Option, none, some}
-use Rattle.sort.specs.Rule.{LineOrCycle, line, cycle}
+use Rattle.lines.specs.Rule.{LineOrCycle, line, cycle}
 use Rattle.sort.specs.declared.search.Ready.{Ready}
 use Rattle.sort.specs.declared.search.Ready.the-variants.{At, None}
 use Rattle.sort.specs.declared.Sorted.{Sorted}

@@ -5,7 +5,7 @@ use mathlib.Core.Path.{_≡_}
 use mathlib.Core.List.{List}
 use lib.Seq.{sets}
 use Rattle.sets.specs.Bits.{numbers, has, in-row}
-use Rattle.sort.specs.Rule.{LineOrCycle, sorted, members-of, length-of}
+use Rattle.lines.specs.Rule.{LineOrCycle, sorted, members-of, length-of}
 use Rattle.sort.specs.Numbers.{sorted-says}
 use Rattle.sort.specs.declared.Sorted.{Sorted}
 

@@ -5,7 +5,7 @@ ghost use Prim.Native.Nat.{_<_};
 ghost use lib.ListN.{length, drop};
 ghost use lib.Seq.{sets};
 ghost use Rattle.sets.specs.Bits.{numbers};
-ghost use Rattle.sort.specs.Rule.{among, up-to, to-lowest};
+ghost use Rattle.lines.specs.Rule.{among, up-to, to-lowest};
 ghost use Rattle.sort.specs.Kept.{Kept, walked};
 use crate::part::place_of;
 use crate::part::place_of_lowest;

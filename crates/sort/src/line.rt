@@ -4,7 +4,7 @@ ghost use Prim.Native.Nat.{ℕ};
 ghost use lib.ListN.{length};
 ghost use lib.Seq.{sets};
 ghost use Rattle.sets.specs.Bits.{numbers, has, in-row};
-ghost use Rattle.sort.specs.Rule.{placed, rest};
+ghost use Rattle.lines.specs.Rule.{placed, rest};
 ghost use Rattle.sort.specs.Kept.{Kept, Searched, Blocked};
 use crate::search::Ready;
 use crate::search::lowest_ready;

@@ -5,7 +5,7 @@ ghost use Prim.Native.Nat.{_+_, _<_, _≤_};
 ghost use lib.ListN.{length, drop};
 ghost use lib.Seq.{sets, slice};
 ghost use Rattle.sets.specs.Bits.{numbers};
-ghost use Rattle.sort.specs.Rule.{among, place-of, lowest};
+ghost use Rattle.lines.specs.Rule.{among, place-of, lowest};
 use sets::NUMBERS;
 
 // Where t first stands in the buffer from `at` on.

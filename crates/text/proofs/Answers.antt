@@ -9,7 +9,7 @@ use lib.ListN.{length, length-append}
 use lib.Seq.{sets}
 use Rattle.format.specs.Answer.{Answer, gives, refused}
 use Rattle.format.specs.Record.{transactions}
-use Rattle.sort.specs.Rule.{LineOrCycle, line, cycle, members-of, length-of}
+use Rattle.lines.specs.Rule.{LineOrCycle, line, cycle, members-of, length-of}
 use Rattle.verdict.specs.Verdict.{most-answer, record-size, entry, verdict-check, line-or-cycle, verdict-answer, answer-records, how-many}
 use Rattle.verdict.proofs.Checks.{sound-log, enough-room, answer-refused, answer-given}
 use Rattle.verdict.proofs.Records.{length-pairs, line-records-are, cycle-records-are}

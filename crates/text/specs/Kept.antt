@@ -6,7 +6,7 @@ use lib.ListN.{length}
 use lib.Seq.{sets}
 use Rattle.format.specs.Answer.{Answer, gives, refused}
 use Rattle.format.specs.Record.{transactions}
-use Rattle.sort.specs.Rule.{LineOrCycle, line, cycle}
+use Rattle.lines.specs.Rule.{LineOrCycle, line, cycle}
 use Rattle.verdict.specs.Verdict.{record-size}
 
 -- bytes put into a buffer from place `at` on, and the place behind them

@@ -5,7 +5,7 @@ use mathlib.Core.List.{List, [], _∷_, _++_}
 use lib.Dec.{ltb}
 use Rattle.format.specs.Answer.{Answer, gives, refused}
 use Rattle.format.specs.Record.{transactions}
-use Rattle.sort.specs.Rule.{LineOrCycle, line, cycle}
+use Rattle.lines.specs.Rule.{LineOrCycle, line, cycle}
 use Rattle.verdict.specs.Verdict.{record-size, most-answer, entry, verdict-answer, answer-records, how-many}
 
 -- a digit

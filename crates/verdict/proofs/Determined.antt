@@ -12,7 +12,7 @@ use Rattle.format.specs.Numbers.{number-of, place-of}
 use Rattle.format.proofs.Answers.{never-both, said-number, said-place}
 use Rattle.format.proofs.Determined.{same-refusal}
 use Rattle.edges.specs.Reasons.{reason}
-use Rattle.sort.specs.Rule.{LineOrCycle, line, cycle, members-of}
+use Rattle.lines.specs.Rule.{LineOrCycle, line, cycle, members-of}
 use Rattle.verdict.specs.Verdict.{record-size, entry, round-to, verdict-check, line-or-cycle, verdict-answer}
 use Rattle.verdict.specs.Verdict.{answer-records}
 use Rattle.verdict.specs.Numbers.{verdict-says}

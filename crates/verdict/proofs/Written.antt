@@ -13,11 +13,11 @@ use Rattle.log.specs.Refusal.{check-answer}
 use Rattle.log.proofs.Passed.{passed-low}
 use Rattle.edges.specs.Reasons.{edge, reason, members}
 use Rattle.edges.proofs.Graphs.{members-hold}
-use Rattle.sort.specs.Rule.{LineOrCycle, line, cycle, members-of, length-of, sorted}
-use Rattle.sort.specs.Lines.{Means}
-use Rattle.sort.proofs.Lists.{among-entry}
-use Rattle.sort.proofs.Determined.{line-of, cycle-of}
-use Rattle.sort.proofs.Sorts.{sorted-means, means-fit, means-within}
+use Rattle.lines.specs.Rule.{LineOrCycle, line, cycle, members-of, length-of, sorted}
+use Rattle.lines.specs.Lines.{Means}
+use Rattle.lines.proofs.Lists.{among-entry}
+use Rattle.lines.proofs.Outcomes.{line-of, cycle-of}
+use Rattle.lines.proofs.Sorts.{sorted-means, means-fit, means-within}
 use Rattle.verdict.specs.Verdict.{entry, pairs, round-to, line-or-cycle, line-records, cycle-records, answer-records}
 use Rattle.verdict.specs.Kept.{Low, Along}
 use Rattle.verdict.proofs.Records.{pairs-same, round-low, line-records-are, cycle-records-are}

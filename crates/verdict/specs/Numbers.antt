@@ -2,7 +2,7 @@
 use Prim.Native.Nat.{ℕ}
 use Rattle.format.specs.Answer.{Answer, gives, refused}
 use Rattle.format.specs.Numbers.{number-of, place-of}
-use Rattle.sort.specs.Rule.{LineOrCycle, line, cycle}
+use Rattle.lines.specs.Rule.{LineOrCycle, line, cycle}
 use Rattle.verdict.specs.declared.answer.Verdict.{Verdict}
 use Rattle.verdict.specs.declared.answer.Verdict.the-variants.{Line, Cycle, Refused}
 

@@ -8,7 +8,7 @@ use Rattle.format.specs.Answer.{Answer, gives, refused, row, _then_}
 use Rattle.format.specs.Record.{transactions, in-log}
 use Rattle.log.specs.Refusal.{length-answer, content-answer}
 use Rattle.edges.specs.Reasons.{edge, reason}
-use Rattle.sort.specs.Rule.{LineOrCycle, line, cycle, sorted, length-of}
+use Rattle.lines.specs.Rule.{LineOrCycle, line, cycle, sorted, length-of}
 
 -- "Answer record k, 2 bytes"
 abbrev pub record-size : ℕ

@@ -12,7 +12,7 @@ use denote.Ref.{now}
 use Rattle.sets.specs.Bits.{numbers, has, in-row}
 use Rattle.sets.proofs.Tables.{empty-entry}
 use Rattle.sets.proofs.From.{FirstFrom}
-use Rattle.sort.specs.Rule.{LineOrCycle, line, cycle, length-of, members-of, placed, rest}
+use Rattle.lines.specs.Rule.{LineOrCycle, line, cycle, length-of, members-of, placed, rest}
 use Rattle.sort.proofs.Waits.{found-from, kept-start, searched-start}
 use Rattle.sort.proofs.Ends.{line-fits, front-written, ends-in-line, ends-in-cycle}
 use Rattle.sort.proofs.sort.Statement.{statement}

@@ -7,7 +7,7 @@ use lib.ListN.{length}
 use lib.Seq.{length-sets}
 use denote.Ref.{now}
 use Rattle.format.specs.Answer.{Answer}
-use Rattle.sort.specs.Rule.{LineOrCycle}
+use Rattle.lines.specs.Rule.{LineOrCycle}
 use Rattle.verdict.specs.Numbers.{verdict-says}
 use Rattle.verdict.specs.Verdict.{verdict-answer, answer-records}
 use Rattle.text.specs.Text.{printed-answer, printed-with}

@@ -16,9 +16,9 @@ use Rattle.log.specs.Refusal.{check-answer}
 use Rattle.edges.specs.Reasons.{edge, reason}
 use Rattle.edges.specs.Table.{lowest-in}
 use Rattle.edges.proofs.Graphs.{joined-whole, lowest-whole}
-use Rattle.sort.specs.Rule.{LineOrCycle, line, cycle, members-of, length-of, sorted}
+use Rattle.lines.specs.Rule.{LineOrCycle, line, cycle, members-of, length-of, sorted}
 use Rattle.sort.specs.Numbers.{sorted-says}
-use Rattle.sort.proofs.Determined.{line-of, cycle-of}
+use Rattle.lines.proofs.Outcomes.{line-of, cycle-of}
 use Rattle.verdict.specs.Verdict.{line-or-cycle}
 use Rattle.verdict.proofs.Written.{sorted-is, ordered-fits, line-answer, cycle-answer, first-low}
 use Rattle.verdict.proofs.ordered.Statement.{statement}

@@ -9,7 +9,7 @@ use lib.Seq.{sets}
 use denote.Ref.{now}
 use Rattle.format.specs.Answer.{Answer, gives, passed}
 use Rattle.format.specs.Numbers.{checked-says}
-use Rattle.sort.specs.Rule.{LineOrCycle}
+use Rattle.lines.specs.Rule.{LineOrCycle}
 use Rattle.verdict.specs.Verdict.{verdict-check, line-or-cycle, verdict-answer, answer-records, how-many}
 use Rattle.verdict.proofs.Checks.{sound-log, enough-room, answer-refused, answer-given}
 use Rattle.verdict.proofs.verdict.Statement.{statement}

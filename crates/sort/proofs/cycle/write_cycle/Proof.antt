@@ -7,7 +7,7 @@ use Prim.Native.Nat.{ℕ, _+_, _-_, _<_, _≤_}
 use lib.ListN.{length}
 use lib.Seq.{sets, slice}
 use denote.Ref.{now}
-use Rattle.sort.specs.Rule.{to-lowest}
+use Rattle.lines.specs.Rule.{to-lowest}
 use Rattle.sort.proofs.Cut.{last-low, low-from, low-to, ring-written, ring-count}
 use Rattle.sort.proofs.cycle.write_cycle.Statement.{statement}
 use Rattle.sort.proofs.cycle.write_cycle.Tie as tie

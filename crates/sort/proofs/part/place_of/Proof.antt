@@ -4,7 +4,7 @@ use Prim.Native.Nat.{_+_, _-_, _<_, _≤_}
 use lib.ListN.{drop}
 use denote.Ref.{now}
 use Rattle.sets.specs.Bits.{numbers}
-use Rattle.sort.specs.Rule.{place-of}
+use Rattle.lines.specs.Rule.{place-of}
 use Rattle.sort.proofs.Parts.{place-in, place-on, place-here}
 use Rattle.sort.proofs.part.place_of.Statement.{statement}
 use Rattle.sort.proofs.part.place_of.Tie as tie

@@ -15,8 +15,7 @@ use Rattle.sets.specs.Search.{first-from, without}
 use Rattle.sets.proofs.Members.{has-low}
 use Rattle.sets.proofs.From.{FirstFrom}
 use Rattle.sort.specs.Kept.{Kept, Searched}
-use Rattle.sort.proofs.Chosen.{taken}
-use Rattle.sort.proofs.Waits.{found-from, Free, Tried, free-on, free-past, lowest-found, tried-on, ready-found, none-found}
+use Rattle.sort.proofs.Waits.{taken, found-from, Free, Tried, free-on, free-past, lowest-found, tried-on, ready-found, none-found}
 use Rattle.sort.proofs.Waits.{kept-store, searched-store, tried-store}
 use Rattle.sort.proofs.search.lowest_ready.Statement.{statement}
 use Rattle.sort.proofs.search.lowest_ready.Tie as tie

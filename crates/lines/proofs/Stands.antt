@@ -9,9 +9,9 @@ use mathlib.Core.Option.{none}
 use lib.Dec.{eqb}
 use borrow.Author.Tests.{eq-eqb, eqb-true}
 use Rattle.sets.proofs.Truth.{clash, and-true, and-left, and-right, or-cases, or-hit-left, or-hit-right}
-use Rattle.sort.specs.Rule.{among}
-use Rattle.sort.specs.Lines.{NoneTwice, stands-before}
-use Rattle.sort.proofs.Lists.{among-later}
+use Rattle.lines.specs.Rule.{among}
+use Rattle.lines.specs.Lines.{NoneTwice, stands-before}
+use Rattle.lines.proofs.Lists.{among-later}
 
 -- what stands before what
 stands-nil : (s t : ℕ) → stands-before [] s t ≡ false

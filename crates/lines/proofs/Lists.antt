@@ -14,8 +14,8 @@ use borrow.Author.Tests.{eq-eqb, ne-eqb, eqb-true}
 use Rattle.sets.specs.Search.{count-below, without}
 use Rattle.sets.proofs.Truth.{clash, refuted, or-cases, or-hit-left, or-hit-right, or-left, or-right, or-false}
 use Rattle.sets.proofs.Counts.{count-without, without-other}
-use Rattle.sort.specs.Rule.{among, place-of, up-to}
-use Rattle.sort.specs.Lines.{NoneTwice}
+use Rattle.lines.specs.Rule.{among, place-of, up-to}
+use Rattle.lines.specs.Lines.{NoneTwice}
 
 -- what is among them
 pub among-nil : (t : ℕ) → among [] t ≡ false

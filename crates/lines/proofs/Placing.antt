@@ -15,14 +15,14 @@ use Rattle.sets.specs.Paths.{Precedes, by-edge, edge-then, Acyclic}
 use Rattle.sets.proofs.Truth.{clash, refuted}
 use Rattle.sets.proofs.Searches.{First, first-some}
 use Rattle.sets.proofs.Counts.{count-none, count-some, count-without, is-another, passed-before, without-itself, without-other}
-use Rattle.sort.specs.Rule.{among, predecessor, ready, next, placed, rest}
-use Rattle.sort.specs.Lines.{NoneTwice, stands-before, edge-within, Below, Line, AtMost, ended, smaller, same-first, Stuck}
-use Rattle.sort.proofs.Lists.{among-nil, among-first, among-other, differ}
-use Rattle.sort.proofs.Stands.{stands-first, stands-later, stands-cases, after-first, stands-not-itself, stands-through}
-use Rattle.sort.proofs.Chosen.{is-predecessor, predecessor-left, predecessor-other, predecessor-edge}
-use Rattle.sort.proofs.Chosen.{is-within, within-from, within-to, within-other, within-edge, within-more}
-use Rattle.sort.proofs.Clauses.{placed-zero, placed-none, placed-some, rest-zero, rest-none, rest-some}
-use Rattle.sort.proofs.Chosen.{is-ready, ready-left, ready-free, not-ready-out, next-view, none-next}
+use Rattle.lines.specs.Rule.{among, predecessor, ready, next, placed, rest}
+use Rattle.lines.specs.Lines.{NoneTwice, stands-before, edge-within, Below, Line, AtMost, ended, smaller, same-first, Stuck}
+use Rattle.lines.proofs.Lists.{among-nil, among-first, among-other, differ}
+use Rattle.lines.proofs.Stands.{stands-first, stands-later, stands-cases, after-first, stands-not-itself, stands-through}
+use Rattle.lines.proofs.Chosen.{is-predecessor, predecessor-left, predecessor-other, predecessor-edge}
+use Rattle.lines.proofs.Chosen.{is-within, within-from, within-to, within-other, within-edge, within-more}
+use Rattle.lines.proofs.Clauses.{placed-zero, placed-none, placed-some, rest-zero, rest-none, rest-some}
+use Rattle.lines.proofs.Chosen.{is-ready, ready-left, ready-free, not-ready-out, next-view, none-next}
 
 module _ (edge : ℕ → ℕ → Bool) where
   -- of a set with one in the list, one stands first in it

@@ -13,13 +13,13 @@ use Rattle.sets.specs.Paths.{Acyclic}
 use Rattle.sets.proofs.Truth.{clash, refuted}
 use Rattle.sets.proofs.Searches.{None, First, first-none, first-some, first-view}
 use Rattle.sets.proofs.Counts.{count-low}
-use Rattle.sort.specs.Rule.{among, next, placed, rest, lowest-predecessor, walk, to-lowest, sorted, LineOrCycle, line, cycle, members-of}
-use Rattle.sort.specs.Lines.{edge-within, Below, Line, SmallestLine, Cycle, FromLowest, Stuck, Means}
-use Rattle.sort.proofs.Lists.{among-nil, among-cases, pigeonhole}
-use Rattle.sort.proofs.Chosen.{next-none, within-more, waiting}
-use Rattle.sort.proofs.Clauses.{sorted-line, sorted-cycle}
-use Rattle.sort.proofs.Placing.{steps-line, line-steps, line-acyclic, line-length, no-line, rest-within, rest-ends, placed-steps, placed-smallest}
-use Rattle.sort.proofs.Rings.{cycle-precedes, linked-more, from-lowest, to-lowest-cycle, walk-cycle}
+use Rattle.lines.specs.Rule.{among, next, placed, rest, lowest-predecessor, walk, to-lowest, sorted, LineOrCycle, line, cycle, members-of}
+use Rattle.lines.specs.Lines.{edge-within, Below, Line, SmallestLine, Cycle, FromLowest, Stuck, Means}
+use Rattle.lines.proofs.Lists.{among-nil, among-cases, pigeonhole}
+use Rattle.lines.proofs.Chosen.{next-none, within-more, waiting}
+use Rattle.lines.proofs.Clauses.{sorted-line, sorted-cycle}
+use Rattle.lines.proofs.Placing.{steps-line, line-steps, line-acyclic, line-length, no-line, rest-within, rest-ends, placed-steps, placed-smallest}
+use Rattle.lines.proofs.Rings.{cycle-precedes, linked-more, from-lowest, to-lowest-cycle, walk-cycle}
 
 -- a cycle among those left is one of the set
 pub cycle-more : (edge : ℕ → ℕ → Bool) (small large : ℕ → Bool) → ((t : ℕ) → small t ≡ true → large t ≡ true)

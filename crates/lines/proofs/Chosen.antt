@@ -1,22 +1,17 @@
 -- Laws of the rule's tests: who is a predecessor, who is ready, who is next. Assumes nothing.
 use Prim.Native.Nat.{ℕ, _<_}
-use mathlib.Core.Path.{_≡_, refl, sym, _∙_, ap, fun-ext}
+use mathlib.Core.Path.{_≡_, refl, sym, _∙_, ap}
 use mathlib.Core.Bool.{Bool, true, false, _&&_, not}
 use mathlib.Core.Option.{none, some}
 use lib.Dec.{eqb}
 use borrow.Author.Tests.{ne-eqb, eqb-false, not-true}
-use Rattle.sets.specs.Bits.{has}
 use Rattle.sets.specs.Search.{some-below, without}
 use Rattle.sets.proofs.Truth.{clash, refuted, and-true, and-left, and-right}
 use Rattle.sets.proofs.Searches.{None, First, first-some, first-found, some-none, none-some, first-view, first-none-below}
 use Rattle.sets.proofs.Searches.{first-hit, first-miss, some-found}
-use Rattle.sets.proofs.Counts.{without-other, without-said}
-use Rattle.sort.specs.Rule.{predecessor, ready, next, lowest-predecessor}
-use Rattle.sort.specs.Lines.{edge-within}
-
--- a set with one taken out, as the rule has it
-pub taken : (left fewer t : ℕ) → ((s : ℕ) → has fewer s ≡ (has left s && not (eqb t s))) → has fewer ≡ without (has left) t
-taken left fewer t h = fun-ext (λ s. h s ∙ without-said (has left) t s)
+use Rattle.sets.proofs.Counts.{without-other}
+use Rattle.lines.specs.Rule.{predecessor, ready, next, lowest-predecessor}
+use Rattle.lines.specs.Lines.{edge-within}
 
 module _ (edge : ℕ → ℕ → Bool) where
   -- a predecessor among those left

@@ -14,12 +14,12 @@ use Rattle.sets.specs.Search.{count-below}
 use Rattle.sets.specs.Paths.{Precedes, by-edge, edge-then}
 use Rattle.sets.proofs.Truth.{clash, or-swap, or-hit-left}
 use Rattle.sets.proofs.Searches.{First, first-none, first-some}
-use Rattle.sort.specs.Rule.{among, place-of, lowest, turned, to-lowest, predecessor, lowest-predecessor, walk, up-to}
-use Rattle.sort.specs.Lines.{NoneTwice, edge-within, Below, Linked, Cycle, FromLowest, Stuck}
-use Rattle.sort.proofs.Lists.{among-nil, among-first, among-later, among-cases, among-append, twice-split, twice-swap}
-use Rattle.sort.proofs.Lists.{first-there, place-low, place-entry, pigeonhole}
-use Rattle.sort.proofs.Chosen.{predecessor-left, predecessor-other, predecessor-edge, is-within, lowest-view}
-use Rattle.sort.proofs.Clauses.{walk-ends, walk-goes}
+use Rattle.lines.specs.Rule.{among, place-of, lowest, turned, to-lowest, predecessor, lowest-predecessor, walk, up-to}
+use Rattle.lines.specs.Lines.{NoneTwice, edge-within, Below, Linked, Cycle, FromLowest, Stuck}
+use Rattle.lines.proofs.Lists.{among-nil, among-first, among-later, among-cases, among-append, twice-split, twice-swap}
+use Rattle.lines.proofs.Lists.{first-there, place-low, place-entry, pigeonhole}
+use Rattle.lines.proofs.Chosen.{predecessor-left, predecessor-other, predecessor-edge, is-within, lowest-view}
+use Rattle.lines.proofs.Clauses.{walk-ends, walk-goes}
 
 module _ (r : ℕ → ℕ → Bool) where
   -- linked lists, cut and joined where a number stands in both

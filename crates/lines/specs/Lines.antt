@@ -5,7 +5,7 @@ use mathlib.Core.Bool.{Bool, true, false, _&&_, _||_, not}
 use mathlib.Core.List.{List, [], _∷_, _++_}
 use lib.Dec.{eqb}
 use lib.ListN.{length, take}
-use Rattle.sort.specs.Rule.{among, predecessor, LineOrCycle, line, cycle}
+use Rattle.lines.specs.Rule.{among, predecessor, LineOrCycle, line, cycle}
 
 -- the set is of numbers below n
 abbrev pub Below : ℕ → (ℕ → Bool) → Type 0

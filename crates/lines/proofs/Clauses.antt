@@ -7,8 +7,8 @@ use mathlib.Core.List.{List, [], _∷_}
 use mathlib.Core.Option.{Option, none, some, Option·elim}
 use Rattle.sets.proofs.Searches.{None, first-hit, first-miss}
 use Rattle.sets.specs.Search.{without}
-use Rattle.sort.specs.Rule.{among, next, placed, rest, lowest-predecessor, walk, to-lowest, cycle-from, up-to}
-use Rattle.sort.specs.Rule.{sorted, line, cycle}
+use Rattle.lines.specs.Rule.{among, next, placed, rest, lowest-predecessor, walk, to-lowest, cycle-from, up-to}
+use Rattle.lines.specs.Rule.{sorted, line, cycle}
 
 module _ (n : ℕ) (edge : ℕ → ℕ → Bool) where
   -- what is placed, and who is left
