@@ -1,0 +1,7 @@
+pub mod History
+pub mod Earlier
+pub mod Source
+pub mod Order
+pub mod Reasons
+pub mod Chapter
+pub mod Sound
