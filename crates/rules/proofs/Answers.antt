@@ -44,3 +44,13 @@ then-refused (refused m q) x n p e = ap₂ refused (ap said-number e) (ap said-p
 pub then-given : {A : Type 0} (a : Answer (Unit {0})) (x y : A) → (a then gives x) ≡ gives y → a ≡ passed
 then-given (gives tt) x y e = refl
 then-given (refused n p) x y e = absurd (never-both y n p e)
+
+-- and it is what was to be given
+value-or : {A : Type 0} → A → Answer A → A
+value-or x (gives y) = y
+value-or x (refused n p) = x
+
+pub then-same : {A : Type 0} (a : Answer (Unit {0})) (x y : A) → (a then gives x) ≡ gives y → x ≡ y
+unfolding value-or
+then-same (gives tt) x y e = ap (value-or x) e
+then-same (refused n p) x y e = absurd (never-both y n p e)

@@ -10,7 +10,7 @@ use mathlib.Core.Logic.{_⊎_, inl, inr, ⊎-elim, _↔_}
 use Rattle.sets.proofs.Searches.{below-cases}
 use Rattle.rules.specs.Answer.{Answer, gives, refused, passed, _then_}
 use Rattle.rules.specs.Rows.{Row, answer-of, over, one-each, NoneOf, FirstOf}
-use Rattle.rules.proofs.Answers.{never-both, then-left, then-right, passed-then, refused-then, said-number, said-place}
+use Rattle.rules.proofs.Answers.{never-both, then-left, then-right, passed-then, refused-then, then-refused, then-given, then-same, said-number, said-place}
 
 -- Row by row, so that a proof about a table that is written out opens nothing.
 pub no-rows : answer-of [] ≡ passed
@@ -57,6 +57,18 @@ unfolding answer-of FirstOf
 given-exactly [] n p = (λ e. absurd (never-both tt n p (sym e)), λ w. absurd w)
 given-exactly (r ∷ rest) n p =
     one-given (r .applies) (r .number) (r .place) n p (answer-of rest) (FirstOf rest n p) (given-exactly rest n p)
+
+-- THEOREM: so it is where x is given to whoever passes the table: the refusals are the table's, and x is given exactly where no row applies
+module _ {A : Type 0} (rows : List Row) (x : A) where
+  pub refused-exactly : (n p : ℕ) → (answer-of rows then gives x) ≡ refused n p ↔ FirstOf rows n p
+  refused-exactly n p =
+      (λ e. given-exactly rows n p .0 (then-refused (answer-of rows) x n p e), λ w. rw (given-exactly rows n p .1 w) refl)
+
+  pub gives-exactly : (y : A) → (answer-of rows then gives x) ≡ gives y ↔ NoneOf rows × (x ≡ y)
+  gives-exactly y = (
+    λ e. (passes-exactly rows .0 (then-given (answer-of rows) x y e), then-same (answer-of rows) x y e),
+    λ w. rw (passes-exactly rows .1 (w .0)) (ap gives (w .1)),
+  )
 
 -- What none of a table's rows says of each, and how to show it.
 pub none-of-none : NoneOf []
