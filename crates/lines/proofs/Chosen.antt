@@ -48,6 +48,12 @@ module _ (edge : ℕ → ℕ → Bool) where
     pub no-edge-none : edge s t ≡ false → predecessor edge left t s ≡ false
     no-edge-none f = refuted (predecessor edge left t s) (λ h. clash (edge s t) (predecessor-edge h) f)
 
+  -- among more that are left, a predecessor is still one
+  pub predecessor-more : (small large : ℕ → Bool) → ((s : ℕ) → small s ≡ true → large s ≡ true)
+      → (t s : ℕ) → predecessor edge small t s ≡ true → predecessor edge large t s ≡ true
+  predecessor-more small large m t s h =
+      is-predecessor large t s (m s (predecessor-left small t s h)) (predecessor-other small t s h) (predecessor-edge small t s h)
+
   -- an edge between two different members
   module _ (set : ℕ → Bool) (s t : ℕ) where
     pub is-within : set s ≡ true → set t ≡ true → (s ≡ t → ⊥) → edge s t ≡ true → edge-within edge set s t ≡ true
@@ -112,12 +118,17 @@ module _ (edge : ℕ → ℕ → Bool) where
     unfolding next
     next-view = first-view (ready n edge left) n
 
-    pub next-is : (t : ℕ) → next n edge left ≡ some t → (t < n) × (left t ≡ true)
+    -- the one that is next
+    pub record IsNext (t : ℕ) : Type 0 where
+      pub below : t < n
+      pub is-left : left t ≡ true
+
+    pub next-is : (t : ℕ) → next n edge left ≡ some t → IsNext t
     unfolding next
     next-is t e = go (first-found (ready n edge left) n e)
       where
-        go : First (ready n edge left) n (some t) → (t < n) × (left t ≡ true)
-        go (first-some l r f) = (l, ready-left t r)
+        go : First (ready n edge left) n (some t) → IsNext t
+        go (first-some l r f) = record { below = l; is-left = ready-left t r }
 
     pub next-none : next n edge left ≡ none → None (ready n edge left) n
     unfolding next
@@ -146,8 +157,12 @@ module _ (edge : ℕ → ℕ → Bool) where
       unfolding lowest-predecessor
       lowest-hit s l f h = first-hit (predecessor edge left t) n s l f h
 
-      pub lowest-is : (s : ℕ) → lowest-predecessor n edge left t ≡ some s → (s < n) × (predecessor edge left t s ≡ true)
+      pub record IsLowestPredecessor (s : ℕ) : Type 0 where
+        pub below : s < n
+        pub precedes : predecessor edge left t s ≡ true
+
+      pub lowest-is : (s : ℕ) → lowest-predecessor n edge left t ≡ some s → IsLowestPredecessor s
       lowest-is s e = go (rw e at lowest-view)
         where
-          go : First (predecessor edge left t) n (some s) → (s < n) × (predecessor edge left t s ≡ true)
-          go (first-some l h f) = (l, h)
+          go : First (predecessor edge left t) n (some s) → IsLowestPredecessor s
+          go (first-some l h f) = record { below = l; precedes = h }

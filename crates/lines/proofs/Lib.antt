@@ -1,8 +1,10 @@
 pub mod Lists
 pub mod Stands
 pub mod Chosen
+pub mod Waiting
 pub mod Clauses
 pub mod Placing
 pub mod Rings
+pub mod Endings
 pub mod Sorts
 pub mod Outcomes

@@ -96,15 +96,15 @@ pub record UpTo (s : ℕ) (xs : List ℕ) : Type 0 where
   pub part : up-to s xs ≡ before ++ s ∷ []
   pub place : place-of s xs ≡ length before
 
-place-nil : (s : ℕ) → place-of s [] ≡ 0
+pub place-nil : (s : ℕ) → place-of s [] ≡ 0
 unfolding place-of
 place-nil s = refl
 
-place-same : (x : ℕ) (xs : List ℕ) (s : ℕ) → x ≡ s → place-of s (x ∷ xs) ≡ 0
+pub place-same : (x : ℕ) (xs : List ℕ) (s : ℕ) → x ≡ s → place-of s (x ∷ xs) ≡ 0
 unfolding place-of
 place-same x xs s q = rw (eq-eqb x s q) refl
 
-place-other : (x : ℕ) (xs : List ℕ) (s : ℕ) → (x ≡ s → ⊥) → place-of s (x ∷ xs) ≡ suc (place-of s xs)
+pub place-other : (x : ℕ) (xs : List ℕ) (s : ℕ) → (x ≡ s → ⊥) → place-of s (x ∷ xs) ≡ suc (place-of s xs)
 unfolding place-of
 place-other x xs s q = rw (ne-eqb x s q) refl
 

@@ -158,6 +158,16 @@ module _ (edge : ℕ → ℕ → Bool) where
             there : left x ≡ true
             there = ready-left edge n left x (w .0)
 
+    -- no more are placed than places were given
+    pub placed-fits : (m : ℕ) (left : ℕ → Bool) → length (placed n edge m left) ≤ m
+    placed-fits zero left = rw (placed-zero n edge left) (omega arith)
+    placed-fits (suc m) left = go (next n edge left) refl (λ t. placed-fits m (without left t))
+      where
+        go : (o : Option ℕ) → next n edge left ≡ o → ((t : ℕ) → length (placed n edge m (without left t)) ≤ m)
+            → length (placed n edge (suc m) left) ≤ suc m
+        go none e ih = rw (placed-none n edge (suc m) left e) (omega arith)
+        go (some t) e ih = rw (placed-some n edge m left t e) (omega (arith, ih t))
+
     -- what is left at the end was in the set
     pub rest-within : (m : ℕ) (left : ℕ → Bool) (t : ℕ) → rest n edge m left t ≡ true → left t ≡ true
     rest-within zero left t h = sym (ap (λ (f : ℕ → Bool). f t) (rest-zero n edge left)) ∙ h

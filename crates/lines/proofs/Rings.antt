@@ -8,8 +8,8 @@ use mathlib.Core.Bool.{Bool, true, false}
 use mathlib.Core.Logic.{_⊎_, ⊎-elim}
 use mathlib.Core.List.{List, [], _∷_, _++_, append-nil, append-assoc}
 use mathlib.Core.Option.{Option, none, some}
-use lib.ListN.{length, take, drop, getD, length-append, take-append-drop}
-use lib.Seq.{drop-cons, split-at}
+use lib.ListN.{length, take, drop, getD, length-append, length-drop, take-append-drop}
+use lib.Seq.{drop-cons, split-at, length-take-le}
 use Rattle.sets.specs.Search.{count-below}
 use Rattle.sets.specs.Paths.{Precedes, by-edge, edge-then}
 use Rattle.sets.proofs.Truth.{clash, or-swap, or-hit-left}
@@ -17,7 +17,7 @@ use Rattle.sets.proofs.Searches.{First, first-none, first-some}
 use Rattle.lines.specs.Rule.{among, place-of, lowest, turned, to-lowest, predecessor, lowest-predecessor, walk, up-to}
 use Rattle.lines.specs.Lines.{NoneTwice, edge-within, Below, Linked, Cycle, FromLowest, Stuck}
 use Rattle.lines.proofs.Lists.{among-nil, among-first, among-later, among-cases, among-append, twice-split, twice-swap}
-use Rattle.lines.proofs.Lists.{first-there, place-low, place-entry, pigeonhole}
+use Rattle.lines.proofs.Lists.{first-there, place-low, place-entry, place-is, among-entry, pigeonhole}
 use Rattle.lines.proofs.Chosen.{predecessor-left, predecessor-other, predecessor-edge, is-within, lowest-view}
 use Rattle.lines.proofs.Clauses.{walk-ends, walk-goes}
 
@@ -116,6 +116,27 @@ module _ (xs : List ℕ) where
             after-first t a =
                 ap (λ (zs : List ℕ). among zs t) (turned-starts k l)
                 ∙ among-later (getD xs k 0) (drop (suc k) xs ++ take k xs) t a
+
+-- the place of the lowest: nothing is lower, and nothing before it is as low
+pub lowest-place-is : (xs : List ℕ) (k : ℕ) → k < length xs → ((j : ℕ) → j < length xs → getD xs k 0 ≤ getD xs j 0)
+    → ((j : ℕ) → j < k → getD xs k 0 < getD xs j 0) → place-of (lowest xs) xs ≡ k
+lowest-place-is xs k l f g = place-is (lowest xs) xs k l same (λ j m e. omega (arith, g j m, e, same))
+  where
+    there : among xs (lowest xs) ≡ true
+    there = lowest-in xs (omega (arith, l))
+
+    same : getD xs k 0 ≡ lowest xs
+    same =
+        omega (
+          arith,
+          lowest-low xs (getD xs k 0) (among-entry xs k l),
+          f (place-of (lowest xs) xs) (place-low (lowest xs) xs there),
+          place-entry (lowest xs) xs there,
+        )
+
+-- a turned list is as long
+pub length-turned : (xs : List ℕ) (p : ℕ) → p ≤ length xs → length (turned p xs) ≡ length xs
+length-turned xs p l = length-append (drop p xs) (take p xs) ∙ omega (arith, length-drop p xs, length-take-le p xs l, l)
 
 module _ (edge : ℕ → ℕ → Bool) where
   -- a cycle may be turned

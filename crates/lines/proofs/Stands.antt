@@ -1,17 +1,18 @@
 -- Laws of what stands before what in a list: at its front and later, only before what is in it, never before itself where none stands
--- twice, and through a third. Assumes nothing.
-use Prim.Native.Nat.{ℕ}
-use mathlib.Core.Path.{_≡_, refl, _∙_, ap, subst}
+-- twice, through a third, and at a lower place.
+use Prim.Native.Nat.{ℕ, suc, _<_}
+use native.Mathlib.Omega.{arith}
+use native.Mathlib.Decide.{ℕ-discrete}
+use mathlib.Core.Path.{_≡_, refl, sym, _∙_, ap, subst}
 use mathlib.Core.Bool.{true, false, _&&_, not}
 use mathlib.Core.Logic.{_⊎_, inl, inr, ⊎-elim}
 use mathlib.Core.List.{List, [], _∷_}
-use mathlib.Core.Option.{none}
 use lib.Dec.{eqb}
 use borrow.Author.Tests.{eq-eqb, eqb-true}
 use Rattle.sets.proofs.Truth.{clash, and-true, and-left, and-right, or-cases, or-hit-left, or-hit-right}
-use Rattle.lines.specs.Rule.{among}
+use Rattle.lines.specs.Rule.{among, place-of}
 use Rattle.lines.specs.Lines.{NoneTwice, stands-before}
-use Rattle.lines.proofs.Lists.{among-later}
+use Rattle.lines.proofs.Lists.{among-nil, among-later, among-other, place-same, place-other}
 
 -- what stands before what
 stands-nil : (s t : ℕ) → stands-before [] s t ≡ false
@@ -78,3 +79,31 @@ stands-through (x ∷ xs) r s t d h k =
         (λ (v : (x ≡ r) × (among xs s ≡ true)). from-first (v .0) (stands-among xs s t w))
         (λ (v : stands-before xs r s ≡ true). stands-later x xs r t (ih v))
         (stands-cases x xs r s h)
+
+-- THEOREM: where none stands twice, what stands before another stands at a lower place ..
+pub stands-lower : (xs : List ℕ) (s t : ℕ) → NoneTwice xs → stands-before xs s t ≡ true → place-of s xs < place-of t xs
+stands-lower [] s t d h = absurd (clash (stands-before [] s t) h (stands-nil s t))
+stands-lower (x ∷ xs) s t d h = go (ℕ-discrete x s) (stands-cases x xs s t h) (stands-lower xs s t (d .1))
+  where
+    -- the second is not the first of the list
+    t-later : place-of t (x ∷ xs) ≡ suc (place-of t xs)
+    t-later = place-other x xs t (λ (e : x ≡ t). clash (among xs x) (ap (among xs) e ∙ after-first x xs s t h) (d .0))
+
+    go : Dec (x ≡ s) → ((x ≡ s) × (among xs t ≡ true)) ⊎ (stands-before xs s t ≡ true)
+        → (stands-before xs s t ≡ true → place-of s xs < place-of t xs) → place-of s (x ∷ xs) < place-of t (x ∷ xs)
+    go (yes q) w ih = omega (arith, place-same x xs s q, t-later)
+    go (no q) (inl w) ih = absurd (q (w .0))
+    go (no q) (inr w) ih = omega (arith, place-other x xs s q, t-later, ih w)
+
+-- THEOREM: .. and what is at a lower place than one that is in the list stands before it
+pub lower-stands : (xs : List ℕ) (s t : ℕ) → among xs t ≡ true → place-of s xs < place-of t xs → stands-before xs s t ≡ true
+lower-stands [] s t a l = absurd (clash (among [] t) a (among-nil t))
+lower-stands (x ∷ xs) s t a l = go (ℕ-discrete x t) (ℕ-discrete x s) (lower-stands xs s t)
+  where
+    go : Dec (x ≡ t) → Dec (x ≡ s) → (among xs t ≡ true → place-of s xs < place-of t xs → stands-before xs s t ≡ true)
+        → stands-before (x ∷ xs) s t ≡ true
+    go (yes e) d ih = absurd (omega (arith, l, place-same x xs t e))
+    go (no e) (yes q) ih = subst (λ (y : ℕ). stands-before (x ∷ xs) y t ≡ true) q (stands-first x xs t (sym (among-other x xs t e) ∙ a))
+    go (no e) (no q) ih =
+        stands-later x xs s t
+        (ih (sym (among-other x xs t e) ∙ a) (omega (arith, l, place-other x xs t e, place-other x xs s q)))

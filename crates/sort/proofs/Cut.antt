@@ -5,11 +5,10 @@ use native.Mathlib.Omega.{arith}
 use mathlib.Core.Path.{_≡_, sym, _∙_, ap}
 use mathlib.Core.Bool.{true}
 use mathlib.Core.List.{List}
-use lib.ListN.{length, take, drop, length-append, length-drop}
+use lib.ListN.{length, take, drop, length-drop}
 use lib.Seq.{sets, slice, take-add, take-take, drop-at, drop-drop, length-take-le}
-use Rattle.sets.specs.Bits.{numbers}
 use Rattle.lines.specs.Rule.{among, place-of, lowest, turned, to-lowest, up-to}
-use Rattle.lines.proofs.Rings.{lowest-in, to-lowest-said}
+use Rattle.lines.proofs.Rings.{length-turned, lowest-in, to-lowest-said}
 use Rattle.lines.proofs.Lists.{place-low}
 use Rattle.sort.proofs.Parts.{sets-append, place-in}
 
@@ -24,17 +23,14 @@ two-parts xs to p l =
     ap (λ (k : ℕ). sets (sets to 0 (drop p xs)) k (take p xs)) (sym (length-drop p xs) ∙ omega arith)
     ∙ sym (sets-append (drop p xs) (take p xs) to 0)
 
-length-turned : (xs : List ℕ) (p : ℕ) → p ≤ length xs → length (turned p xs) ≡ length xs
-length-turned xs p l = length-append (drop p xs) (take p xs) ∙ omega (arith, length-drop p xs, length-take-le p xs l, l)
-
-module _ (path : List ℕ) (at again : ℕ) (whole : length path ≡ numbers) (there : among (drop at path) again ≡ true) where
+module _ (path : List ℕ) (at again : ℕ) (there : among (drop at path) again ≡ true) where
   -- the cycle, along the edges
   abbrev pub ring : List ℕ
   ring = up-to again (drop at path)
 
   module _ (last : ℕ) (found : last ≡ at + place-of again (drop at path)) where
-    pub last-low : last < numbers
-    last-low = omega (arith, found, place-in path at again there, whole)
+    pub last-low : last < length path
+    last-low = omega (arith, found, place-in path at again there)
 
     ring-length : length ring ≡ last + 1 - at
     ring-length =
@@ -46,7 +42,7 @@ module _ (path : List ℕ) (at again : ℕ) (whole : length path ≡ numbers) (t
     ring-part =
         let end : last + 1 ≡ at + suc (place-of again (drop at path)) = omega (arith, found) in
         ap (λ (e : ℕ). slice at e path) end
-        ∙ slice-take path at (suc (place-of again (drop at path))) (omega (arith, found, last-low, whole))
+        ∙ slice-take path at (suc (place-of again (drop at path))) (omega (arith, found, last-low))
 
     module _ (low : ℕ) (lowest-there : low ≡ at + place-of (lowest (slice at (last + 1) path)) (slice at (last + 1) path)) where
       abbrev p : ℕ
@@ -82,7 +78,7 @@ module _ (path : List ℕ) (at again : ℕ) (whole : length path ≡ numbers) (t
           second-part : slice at low path ≡ take p ring
           second-part =
               ap (λ (e : ℕ). slice at e path) low-place
-              ∙ slice-take path at p (omega (arith, found, last-low, whole))
+              ∙ slice-take path at p (omega (arith, found, last-low))
               ∙ sym (take-take p (suc (place-of again (drop at path))) (drop at path) (omega (arith, p-low, ring-length, found)))
 
       pub ring-count : last + 1 - at ≡ length (to-lowest ring)

@@ -10,8 +10,8 @@ use native.Mathlib.Decide.{ℕ-discrete}
 use lib.ListN.{length, take, drop, getD, set, length-drop}
 use lib.Seq.{sets, slice, length-slice, slice-empty, take-suc, getD-take, getD-drop, drop-append-le, length-take-le}
 use Rattle.lines.specs.Rule.{among, place-of, lowest}
-use Rattle.lines.proofs.Lists.{place-low, place-entry, place-is, place-before, among-entry}
-use Rattle.lines.proofs.Rings.{lowest-in, lowest-low}
+use Rattle.lines.proofs.Lists.{place-low, place-entry, place-before}
+use Rattle.lines.proofs.Rings.{lowest-place-is}
 
 -- a list written after another
 pub sets-append : (xs ys to : List ℕ) (at : ℕ) → sets to at (xs ++ ys) ≡ sets (sets to at xs) (at + length xs) ys
@@ -70,23 +70,7 @@ module _ (buffer : List ℕ) (at t : ℕ) (there : among (drop at buffer) t ≡ 
           (place-before t (drop at buffer) (k - at) (omega (arith, l, m, e))
           (getD-drop at buffer (k - at) 0 ∙ ap (λ (x : ℕ). getD buffer x 0) (omega (arith, l)) ∙ q))
 
--- the place of the lowest: nothing is lower, and nothing before it is as low
-lowest-place-is : (xs : List ℕ) (k : ℕ) → k < length xs → ((j : ℕ) → j < length xs → getD xs k 0 ≤ getD xs j 0)
-    → ((j : ℕ) → j < k → getD xs k 0 < getD xs j 0) → place-of (lowest xs) xs ≡ k
-lowest-place-is xs k l f g = place-is (lowest xs) xs k l same (λ j m e. omega (arith, g j m, e, same))
-  where
-    there : among xs (lowest xs) ≡ true
-    there = lowest-in xs (omega (arith, l))
-
-    same : getD xs k 0 ≡ lowest xs
-    same =
-        omega (
-          arith,
-          lowest-low xs (getD xs k 0) (among-entry xs k l),
-          f (place-of (lowest xs) xs) (place-low (lowest xs) xs there),
-          place-entry (lowest xs) xs there,
-        )
-
+-- the place of the lowest of a part
 pub part-lowest : (buffer : List ℕ) (at end low : ℕ) → end ≤ length buffer → at ≤ low → low < end
     → ((j : ℕ) → at ≤ j → j < end → getD buffer low 0 ≤ getD buffer j 0)
     → ((j : ℕ) → at ≤ j → j < low → getD buffer low 0 < getD buffer j 0)

@@ -13,8 +13,10 @@ use Rattle.sets.specs.Bits.{numbers, has, in-row}
 use Rattle.sets.proofs.Tables.{empty-entry}
 use Rattle.sets.proofs.From.{FirstFrom}
 use Rattle.lines.specs.Rule.{LineOrCycle, line, cycle, length-of, members-of, placed, rest}
+use Rattle.sort.specs.Kept.{back}
 use Rattle.sort.proofs.Waits.{found-from, kept-start, searched-start}
-use Rattle.sort.proofs.Ends.{line-fits, front-written, ends-in-line, ends-in-cycle}
+use Rattle.lines.proofs.Endings.{ends-in-line, ends-in-cycle}
+use Rattle.sort.proofs.Ends.{line-fits, front-written}
 use Rattle.sort.proofs.sort.Statement.{statement}
 use Rattle.sort.proofs.sort.Tie as tie
 
@@ -79,7 +81,7 @@ returns c =
     let m = t .before in
     let to = now (m .before .before .before .before .args .members) in
     let none-left = subst (FirstFrom (left m) 0 numbers) (t .if1 .taken) (first-left m) in
-    let is-line = ends-in-line (edge m) (set m) (left m) (same-rest m) none-left in
+    let is-line = ends-in-line numbers (edge m) (set m) (left m) (same-rest m) none-left in
     record {
       says = ap line (omega (arith, counted m)) ∙ sym (ap length-of is-line);
       leaves =
@@ -102,7 +104,7 @@ returns-2 c =
     let to = now (m .before .before .before .before .args .members) in
     let waits = m .before .place-all .last .1 .1 .0 in
     let blocked = m .before .place-all .ensures .1 .1 .1 .1 in
-    let is-cycle = ends-in-cycle (edge m) (set m) (left m) (same-rest m) waits blocked (first m) (first-left m) (low e) in
+    let is-cycle = ends-in-cycle numbers (edge m) (set m) (left m) (same-rest m) (back waits) blocked (first m) (first-left m) (low e) in
     record {
       says = ap cycle (c .write-cycle .ensures .0) ∙ sym (ap length-of is-cycle);
       leaves = c .write-cycle .ensures .1 ∙ sym (ap (λ (o : LineOrCycle (List ℕ)). sets to 0 (members-of o)) is-cycle);

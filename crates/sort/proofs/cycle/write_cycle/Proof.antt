@@ -36,7 +36,7 @@ module _ (c : tie.After-place-of) where
   last = c .place-of .result
 
   inside : last < 64
-  inside = last-low path at again (w .walk-back .ensures .0) (w .walk-back .ensures .1 .0) last (c .place-of .ensures)
+  inside = omega (arith, last-low path at again (w .walk-back .ensures .1 .0) last (c .place-of .ensures), w .walk-back .ensures .0)
 
 add-end : tie.Need-add-end
 add-end c = omega (arith, inside c)
@@ -56,12 +56,12 @@ module _ (c : tie.After-place-of-lowest) where
 
   from : at f ≤ low
   from =
-      low-from (path f) (at f) (again f) (w f .walk-back .ensures .0) (w f .walk-back .ensures .1 .0) (last f) (f .place-of .ensures)
+      low-from (path f) (at f) (again f) (w f .walk-back .ensures .1 .0) (last f) (f .place-of .ensures)
       low (c .place-of-lowest .ensures)
 
   to : low ≤ last f
   to =
-      low-to (path f) (at f) (again f) (w f .walk-back .ensures .0) (w f .walk-back .ensures .1 .0) (last f) (f .place-of .ensures)
+      low-to (path f) (at f) (again f) (w f .walk-back .ensures .1 .0) (last f) (f .place-of .ensures)
       low (c .place-of-lowest .ensures)
 
 write-part-requires : tie.Need-write-part-requires
@@ -85,17 +85,16 @@ returns c =
     let first-part = c .before .before .before in
     let l = first-part .before .before .before in
     let g = f l in
-    let whole = w g .walk-back .ensures .0 in
     let there = w g .walk-back .ensures .1 .0 in
     let is-walk = w g .walk-back .ensures .1 .1 in
     let is-last = g .place-of .ensures in
     let is-lowest = l .place-of-lowest .ensures in
     let to-start = now (w g .before .before .args .members) in (
-      ring-count (path g) (at g) (again g) whole there (last g) is-last (low l) is-lowest
+      ring-count (path g) (at g) (again g) there (last g) is-last (low l) is-lowest
           ∙ ap (λ (xs : List ℕ). length (to-lowest xs)) is-walk,
       c .write-part2 .ensures
           ∙ ap (λ (xs : List ℕ). sets xs (last g + 1 - low l) (slice (at g) (low l) (path g))) (first-part .write-part .ensures)
-          ∙ ring-written (path g) (at g) (again g) whole there (last g) is-last (low l) is-lowest to-start
+          ∙ ring-written (path g) (at g) (again g) there (last g) is-last (low l) is-lowest to-start
           ∙ ap (λ (xs : List ℕ). sets to-start 0 (to-lowest xs)) is-walk,
     )
 

@@ -22,7 +22,7 @@ use Rattle.sort.proofs.line.place_all.Tie as tie
 abbrev Inv-loop : tie.InvT-loop
 Inv-loop table set waits₀ line₀ left₀ count₀ waits line left count =
     (count ≤ numbers)
-    × ToPlace (in-row table) (has set) line₀ line (has left) count (numbers - count)
+    × ToPlace numbers (in-row table) (has set) line₀ line (has left) count (numbers - count)
     × Kept waits
     × Searched (in-row table) (has left) waits
 
@@ -30,7 +30,7 @@ abbrev μ-loop : tie.MeasureT-loop
 μ-loop table set waits₀ line₀ left₀ count₀ waits line left count = numbers - count
 
 loop-holds : tie.Need-loop-holds Inv-loop μ-loop
-loop-holds c = let a = c .args in (omega arith, place-start (in-row (now (a .table))) (has (a .set)) (now (a .line)), c .pre .0, c .pre .1)
+loop-holds c = let a = c .args in (omega arith, place-start numbers (in-row (now (a .table))) (has (a .set)) (now (a .line)), c .pre .0, c .pre .1)
 
 lowest-ready-requires : tie.Need-lowest-ready-requires Inv-loop μ-loop
 lowest-ready-requires c κs = (c .before .loop .inv .2, c .before .loop .inv .3)
@@ -65,11 +65,11 @@ returns c =
     let over : next numbers (edge s) (has (left s)) ≡ none = sym (s .lowest-ready .ensures .0) ∙ ap ready-says (c .enum-told .given .1) in
     let w = l .inv .1 in
     let more = numbers - count s in (
-      done-count (edge s) (set s) (blank s) (line s) (has (left s)) (count s) more w over,
+      done-count numbers (edge s) (set s) (blank s) (line s) (has (left s)) (count s) more w over,
       (
-        done-line (edge s) (set s) (blank s) (line s) (has (left s)) (count s) more w over,
+        done-line numbers (edge s) (set s) (blank s) (line s) (has (left s)) (count s) more w over,
         (
-          (λ t. ap (λ (f : ℕ → Bool). f t) (done-rest (edge s) (set s) (blank s) (line s) (has (left s)) (count s) more w over)),
+          (λ t. ap (λ (f : ℕ → Bool). f t) (done-rest numbers (edge s) (set s) (blank s) (line s) (has (left s)) (count s) more w over)),
           (s .lowest-ready .ensures .1 .0, s .lowest-ready .ensures .1 .1 .1 over),
         ),
       ),
@@ -90,12 +90,12 @@ module _ (c : tie.After-t Inv-loop μ-loop) where
   is-next = sym (s .lowest-ready .ensures .0) ∙ ap ready-says (c .t .given .1)
 
   low : t < numbers
-  low = next-is (edge s) numbers (has (left s)) t is-next .0
+  low = next-is (edge s) numbers (has (left s)) t is-next .below
 
   room : count s < numbers
   room =
       let l = s .before .before .loop in
-      let more = place-room (edge s) (set s) (blank s) (line s) (has (left s)) (count s) (numbers - count s) t (l .inv .1) is-next in
+      let more = place-room numbers (edge s) (set s) (blank s) (line s) (has (left s)) (count s) (numbers - count s) t (l .inv .1) is-next in
       omega (arith, l .inv .0, more)
 
 cast-line : tie.Need-cast-line Inv-loop μ-loop
@@ -121,9 +121,9 @@ loop-again c =
     let fewer = taken (left e) (c .without-member .result) (t f) (c .without-member .ensures) in
     let one-more : numbers - count e ≡ suc (numbers - (count e + 1)) = omega (arith, room f) in (
       omega (arith, room f),
-      place-one (edge e) (set e) (blank e) (line e) (has (left e)) (count e) (numbers - (count e + 1)) (t f)
+      place-one numbers (edge e) (set e) (blank e) (line e) (has (left e)) (count e) (numbers - (count e + 1)) (t f)
           (has (c .without-member .result))
-          (subst (ToPlace (edge e) (set e) (blank e) (line e) (has (left e)) (count e)) one-more (l .inv .1)) (is-next f) fewer,
+          (subst (ToPlace numbers (edge e) (set e) (blank e) (line e) (has (left e)) (count e)) one-more (l .inv .1)) (is-next f) fewer,
       e .lowest-ready .ensures .1 .0,
       searched-fewer (edge e) (has (left e)) (has (c .without-member .result)) (e .lowest-ready .last .1 .1 .0)
           (λ u h. passed-before (has (left e)) (t f) u (ap (λ (g : ℕ → Bool). g u) (sym fewer) ∙ h)) (e .lowest-ready .ensures .1 .1 .0),

@@ -15,17 +15,18 @@ use Rattle.sets.specs.Search.{first-from, without}
 use Rattle.sets.proofs.Members.{has-low}
 use Rattle.sets.proofs.From.{FirstFrom}
 use Rattle.sort.specs.Kept.{Kept, Searched}
-use Rattle.sort.proofs.Waits.{taken, found-from, Free, Tried, free-on, free-past, lowest-found, tried-on, ready-found, none-found}
+use Rattle.lines.proofs.Waiting.{Free, Tried, free-on, free-past, first-is-lowest, tried-on, ready-found, none-found}
+use Rattle.sort.proofs.Waits.{taken, kept-in, found-from}
 use Rattle.sort.proofs.Waits.{kept-store, searched-store, tried-store}
 use Rattle.sort.proofs.search.lowest_ready.Statement.{statement}
 use Rattle.sort.proofs.search.lowest_ready.Tie as tie
 
 abbrev Trying : List ℕ → ℕ → List ℕ → ℕ → Type 0
-Trying table left waits k = Kept waits × Searched (in-row table) (has left) waits × Tried (in-row table) (has left) waits k
+Trying table left waits k = Kept waits × Searched (in-row table) (has left) waits × Tried numbers (in-row table) (has left) (kept-in waits) k
 
 abbrev Inv-loop : tie.InvT-loop
 Inv-loop table left waits₀ tried t others s₀ waits s =
-    (s ≤ numbers) × (s < numbers → without (has left) t s ≡ true) × Free (in-row table) (has left) t s × Trying table left waits t
+    (s ≤ numbers) × (s < numbers → without (has left) t s ≡ true) × Free numbers (in-row table) (has left) t s × Trying table left waits t
 
 abbrev μ-loop : tie.MeasureT-loop
 μ-loop table left waits₀ tried t others s₀ waits s = numbers - s
@@ -56,8 +57,8 @@ module _ (c : tie.After-member-from Inv-loop μ-loop Inv-search μ-search) where
   found : FirstFrom (has left) (c .before .search .tried) numbers t
   found = found-from (has left) (c .before .search .tried) t (c .member-from .ensures)
 
-  tried : Tried edge (has left) (c .before .search .waits) t
-  tried = tried-on edge (has left) (c .before .search .waits) (c .before .search .tried) t (c .before .search .inv .2) found
+  tried : Tried numbers edge (has left) (kept-in (c .before .search .waits)) t
+  tried = tried-on numbers edge (has left) (kept-in (c .before .search .waits)) (c .before .search .tried) t (c .before .search .inv .2) found
 
 -- it is one, and not the end
 low : (c : tie.Else1 Inv-loop μ-loop Inv-search μ-search) → t (c .before) < numbers
@@ -99,7 +100,7 @@ loop-holds c =
     let v = other-from o (getD (w .waits) (t n) 0) (c .member-from2 .result) (c .member-from2 .ensures) in (
       v .within,
       (λ l. v .passes l .1),
-      free-on (edge n) (has (left n)) (t n) (getD (w .waits) (t n) 0) (c .member-from2 .result) (w .inv .1 (t n)) v,
+      free-on numbers (edge n) (has (left n)) (t n) (getD (w .waits) (t n) 0) (c .member-from2 .result) (w .inv .1 (t n)) v,
       (w .inv .0, w .inv .1, tried n),
     )
 
@@ -144,7 +145,7 @@ search-again c =
     let x = t (n i) in
     let there = low (o i .before) in
     let is-edge = sym (c .before .has-member .ensures) ∙ c .if2 .taken in
-    let first = lowest-found e set x (s i) (l .inv .2) m (l .inv .1 m) is-edge in (
+    let first = first-is-lowest numbers e set x (s i) (l .inv .2) m (l .inv .1 m) is-edge in (
       kept-store e set (l .waits) x (s i) (l .inv .3 .0) there m,
       searched-store e set (l .waits) x (s i) (l .inv .3 .0) there m (l .inv .3 .1) (l .inv .2),
       tried-store e set (l .waits) x (s i) (l .inv .3 .0) there m (l .inv .3 .2) first,
@@ -180,7 +181,7 @@ loop-again c =
     let no-edge = sym (c .before .before .has-member .ensures) ∙ c .before .if2 .left in (
       onwards c .within,
       (λ m. onwards c .passes m .1),
-      free-on e set (t (n i)) (s i + 1) (c .member-from3 .result) (free-past e set (t (n i)) (s i) (l .inv .2) no-edge) (onwards c),
+      free-on numbers e set (t (n i)) (s i + 1) (c .member-from3 .result) (free-past numbers e set (t (n i)) (s i) (l .inv .2) no-edge) (onwards c),
       l .inv .3,
     )
 
@@ -188,8 +189,8 @@ returns : tie.Need-returns Inv-loop μ-loop Inv-search μ-search
 returns c =
     let m = c .before in
     let w = m .before .search in
-    let all = subst (Tried (edge m) (has (left m)) (w .waits)) (c .if1 .taken) (tried m) in (
-      sym (none-found (edge m) (has (left m)) (w .waits) all),
+    let all = subst (Tried numbers (edge m) (has (left m)) (kept-in (w .waits))) (c .if1 .taken) (tried m) in (
+      sym (none-found numbers (edge m) (has (left m)) (kept-in (w .waits)) all),
       (w .inv .0, (w .inv .1, λ e u h. all u (has-low (left m) 64 u (m .before .before .fits .left .fits) h) h)),
     )
 
@@ -200,8 +201,8 @@ returns-2 c =
     let m = chosen w in
     let there = low (w .before) in
     let set = has (left m) in
-    let free : Free (edge m) set (t m) numbers = λ u z. l .inv .2 u (omega (arith, z, c .loop-test .left)) in
-    let is-next = ready-found (edge m) set (l .waits) (t m) (l .inv .3 .2) there (found m .passes there .1) free in (
+    let free : Free numbers (edge m) set (t m) numbers = λ u z. l .inv .2 u (omega (arith, z, c .loop-test .left)) in
+    let is-next = ready-found numbers (edge m) set (kept-in (l .waits)) (t m) (l .inv .3 .2) there (found m .passes there .1) free in (
       sym is-next,
       (l .inv .3 .0, (l .inv .3 .1, λ e. absurd (Option·some-ne-none (t m) (sym is-next ∙ e)))),
     )
