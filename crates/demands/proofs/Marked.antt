@@ -14,7 +14,7 @@ use Rattle.log.specs.Refusal.{record-answer, records-answer, never-commits, fir
 use Rattle.log.specs.Refusal.{check-answer}
 use Rattle.log.specs.Source.{source-record, source}
 use Rattle.sets.specs.Search.{some-below, some-from, last-below, first-below, without}
-use Rattle.lines.specs.Rule.{predecessor, among, place-of, lowest, to-lowest, walk, ready, next, placed, rest, lowest-predecessor}
+use Rattle.lines.specs.Rule.{predecessor, among, place-of, lowest-member, to-lowest, walk, ready, next, placed, rest, lowest-predecessor}
 use Rattle.lines.specs.Rule.{cycle-from, sorted}
 use Rattle.verdict.specs.Verdict.{short-buffer, verdict-check, line-or-cycle, verdict-answer, pairs, round-to, line-records}
 use Rattle.verdict.specs.Verdict.{cycle-records}
@@ -28,6 +28,6 @@ unfolding writes is-earlier-commit commits-earlier comes-before writer-after use
     copy-of is-by writes-copy writes-item named committed wrote-copy wrote-item written in-log too-long ragged after-commit
     reads-unwritten reads-past-own read-answer history-answer record-answer records-answer never-commits first-record end-answer
     length-answer content-answer check-answer source-record source some-below some-from last-below first-below without
-    predecessor among place-of lowest to-lowest walk ready next placed rest lowest-predecessor cycle-from sorted short-buffer
+    predecessor among place-of lowest-member to-lowest walk ready next placed rest lowest-predecessor cycle-from sorted short-buffer
     verdict-check line-or-cycle verdict-answer pairs round-to line-records cycle-records Option·elim
 marked-hold = refl

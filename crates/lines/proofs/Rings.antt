@@ -14,7 +14,7 @@ use Rattle.sets.specs.Search.{count-below}
 use Rattle.sets.specs.Paths.{Precedes, by-edge, edge-then}
 use Rattle.sets.proofs.Truth.{clash, or-swap, or-hit-left}
 use Rattle.sets.proofs.Searches.{First, first-none, first-some}
-use Rattle.lines.specs.Rule.{among, place-of, lowest, turned, to-lowest, predecessor, lowest-predecessor, walk, up-to}
+use Rattle.lines.specs.Rule.{among, place-of, lowest-member, turned, to-lowest, predecessor, lowest-predecessor, walk, up-to}
 use Rattle.lines.specs.Lines.{NoneTwice, edge-within, Below, Linked, Cycle, FromLowest, Stuck}
 use Rattle.lines.proofs.Lists.{among-nil, among-first, among-later, among-cases, among-append, twice-split, twice-swap}
 use Rattle.lines.proofs.Lists.{first-there, place-low, place-entry, place-is, among-entry, pigeonhole}
@@ -58,24 +58,24 @@ linked-more r q m (x ∷ []) h = tt
 linked-more r q m (x ∷ y ∷ ys) h = (m x y (h .0), linked-more r q m (y ∷ ys) (h .1))
 
 -- the lowest number of a list is in it, and nothing in it is below
-pub lowest-among : (x : ℕ) (xs : List ℕ) → among (x ∷ xs) (lowest (x ∷ xs)) ≡ true
-unfolding lowest
-lowest-among x [] = among-first x []
-lowest-among x (y ∷ ys) = go (decLt (lowest (y ∷ ys)) x) (lowest-among y ys)
+pub lowest-member-among : (x : ℕ) (xs : List ℕ) → among (x ∷ xs) (lowest-member (x ∷ xs)) ≡ true
+unfolding lowest-member
+lowest-member-among x [] = among-first x []
+lowest-member-among x (y ∷ ys) = go (decLt (lowest-member (y ∷ ys)) x) (lowest-member-among y ys)
   where
-    go : Dec (lowest (y ∷ ys) < x) → among (y ∷ ys) (lowest (y ∷ ys)) ≡ true → among (x ∷ y ∷ ys) (min x (lowest (y ∷ ys))) ≡ true
-    go (yes l) a = subst (λ (z : ℕ). among (x ∷ y ∷ ys) z ≡ true) (omega (arith, l)) (among-later x (y ∷ ys) (lowest (y ∷ ys)) a)
+    go : Dec (lowest-member (y ∷ ys) < x) → among (y ∷ ys) (lowest-member (y ∷ ys)) ≡ true → among (x ∷ y ∷ ys) (min x (lowest-member (y ∷ ys))) ≡ true
+    go (yes l) a = subst (λ (z : ℕ). among (x ∷ y ∷ ys) z ≡ true) (omega (arith, l)) (among-later x (y ∷ ys) (lowest-member (y ∷ ys)) a)
     go (no l) a = subst (λ (z : ℕ). among (x ∷ y ∷ ys) z ≡ true) (omega (arith, l)) (among-first x (y ∷ ys))
 
-pub lowest-low : (xs : List ℕ) (t : ℕ) → among xs t ≡ true → lowest xs ≤ t
-unfolding lowest
-lowest-low [] t a = absurd (clash (among [] t) a (among-nil t))
-lowest-low (x ∷ []) t a =
+pub lowest-member-low : (xs : List ℕ) (t : ℕ) → among xs t ≡ true → lowest-member xs ≤ t
+unfolding lowest-member
+lowest-member-low [] t a = absurd (clash (among [] t) a (among-nil t))
+lowest-member-low (x ∷ []) t a =
     ⊎-elim (λ (e : x ≡ t). omega (arith, e)) (λ (e : among [] t ≡ true). absurd (clash (among [] t) e (among-nil t))) (among-cases x [] t a)
-lowest-low (x ∷ y ∷ ys) t a =
+lowest-member-low (x ∷ y ∷ ys) t a =
     ⊎-elim
     (λ (e : x ≡ t). omega (arith, e))
-    (λ (e : among (y ∷ ys) t ≡ true). omega (arith, lowest-low (y ∷ ys) t e))
+    (λ (e : among (y ∷ ys) t ≡ true). omega (arith, lowest-member-low (y ∷ ys) t e))
     (among-cases x (y ∷ ys) t a)
 
 -- two lists in the other order
@@ -84,7 +84,7 @@ among-swap xs ys t a = among-append xs ys t ∙ or-swap (among xs t) (among ys t
 
 -- a list turned to its lowest number starts with it, and has the same members
 module _ (xs : List ℕ) where
-  pub to-lowest-said : turned (place-of (lowest xs) xs) xs ≡ to-lowest xs
+  pub to-lowest-said : turned (place-of (lowest-member xs) xs) xs ≡ to-lowest xs
   unfolding to-lowest
   to-lowest-said = refl
 
@@ -96,21 +96,21 @@ module _ (xs : List ℕ) where
   turned-starts k l = ap (λ (zs : List ℕ). zs ++ take k xs) (drop-cons xs k 0 l)
 
   module _ (some-one : 1 ≤ length xs) where
-    pub lowest-in : among xs (lowest xs) ≡ true
-    lowest-in = go xs some-one
+    pub lowest-member-in : among xs (lowest-member xs) ≡ true
+    lowest-member-in = go xs some-one
       where
-        go : (ys : List ℕ) → 1 ≤ length ys → among ys (lowest ys) ≡ true
+        go : (ys : List ℕ) → 1 ≤ length ys → among ys (lowest-member ys) ≡ true
         go [] l = absurd (omega (arith, l))
-        go (y ∷ ys) l = lowest-among y ys
+        go (y ∷ ys) l = lowest-member-among y ys
 
-    lowest-place : place-of (lowest xs) xs < length xs
-    lowest-place = place-low (lowest xs) xs lowest-in
+    lowest-place : place-of (lowest-member xs) xs < length xs
+    lowest-place = place-low (lowest-member xs) xs lowest-member-in
 
     pub from-lowest : FromLowest (to-lowest xs)
-    from-lowest = subst FromLowest to-lowest-said (go (place-of (lowest xs) xs) lowest-place (place-entry (lowest xs) xs lowest-in))
+    from-lowest = subst FromLowest to-lowest-said (go (place-of (lowest-member xs) xs) lowest-place (place-entry (lowest-member xs) xs lowest-member-in))
       where
-        go : (k : ℕ) → k < length xs → getD xs k 0 ≡ lowest xs → FromLowest (turned k xs)
-        go k l e = subst FromLowest (sym (turned-starts k l)) (λ t a. rw e (lowest-low xs t (turned-among k t (after-first t a))))
+        go : (k : ℕ) → k < length xs → getD xs k 0 ≡ lowest-member xs → FromLowest (turned k xs)
+        go k l e = subst FromLowest (sym (turned-starts k l)) (λ t a. rw e (lowest-member-low xs t (turned-among k t (after-first t a))))
           where
             after-first : (t : ℕ) → among (drop (suc k) xs ++ take k xs) t ≡ true → among (turned k xs) t ≡ true
             after-first t a =
@@ -119,19 +119,19 @@ module _ (xs : List ℕ) where
 
 -- the place of the lowest: nothing is lower, and nothing before it is as low
 pub lowest-place-is : (xs : List ℕ) (k : ℕ) → k < length xs → ((j : ℕ) → j < length xs → getD xs k 0 ≤ getD xs j 0)
-    → ((j : ℕ) → j < k → getD xs k 0 < getD xs j 0) → place-of (lowest xs) xs ≡ k
-lowest-place-is xs k l f g = place-is (lowest xs) xs k l same (λ j m e. omega (arith, g j m, e, same))
+    → ((j : ℕ) → j < k → getD xs k 0 < getD xs j 0) → place-of (lowest-member xs) xs ≡ k
+lowest-place-is xs k l f g = place-is (lowest-member xs) xs k l same (λ j m e. omega (arith, g j m, e, same))
   where
-    there : among xs (lowest xs) ≡ true
-    there = lowest-in xs (omega (arith, l))
+    there : among xs (lowest-member xs) ≡ true
+    there = lowest-member-in xs (omega (arith, l))
 
-    same : getD xs k 0 ≡ lowest xs
+    same : getD xs k 0 ≡ lowest-member xs
     same =
         omega (
           arith,
-          lowest-low xs (getD xs k 0) (among-entry xs k l),
-          f (place-of (lowest xs) xs) (place-low (lowest xs) xs there),
-          place-entry (lowest xs) xs there,
+          lowest-member-low xs (getD xs k 0) (among-entry xs k l),
+          f (place-of (lowest-member xs) xs) (place-low (lowest-member xs) xs there),
+          place-entry (lowest-member xs) xs there,
         )
 
 -- a turned list is as long
@@ -158,7 +158,7 @@ module _ (edge : ℕ → ℕ → Bool) where
   pub to-lowest-cycle : (set : ℕ → Bool) (xs : List ℕ) → Cycle edge set xs → Cycle edge set (to-lowest xs)
   to-lowest-cycle set xs c =
       subst (Cycle edge set) (to-lowest-said xs)
-      (turned-cycle set xs (place-of (lowest xs) xs) (lowest-place xs (omega (arith, c .at-least-two))) c)
+      (turned-cycle set xs (place-of (lowest-member xs) xs) (lowest-place xs (omega (arith, c .at-least-two))) c)
 
   -- what a path is: none twice, all of them left, each with an edge to the next
   abbrev pub Path : (ℕ → Bool) → List ℕ → Type 0
@@ -208,9 +208,9 @@ module _ (edge : ℕ → ℕ → Bool) where
 
   module _ (n : ℕ) (left : ℕ → Bool) where
     -- in a stuck rest the walk always finds a lowest predecessor
-    pub lowest-found : Below n left → Stuck edge left → (t : ℕ) → left t ≡ true
+    pub stuck-lowest : Below n left → Stuck edge left → (t : ℕ) → left t ≡ true
         → (s : ℕ) × (lowest-predecessor n edge left t ≡ some s) × (predecessor edge left t s ≡ true)
-    lowest-found low stuck t l = go (lowest-predecessor n edge left t) refl (lowest-view edge n left t)
+    stuck-lowest low stuck t l = go (lowest-predecessor n edge left t) refl (lowest-view edge n left t)
       where
         go : (o : Option ℕ) → lowest-predecessor n edge left t ≡ o → First (predecessor edge left t) n o
             → (s : ℕ) × (lowest-predecessor n edge left t ≡ some s) × (predecessor edge left t s ≡ true)
@@ -225,7 +225,7 @@ module _ (edge : ℕ → ℕ → Bool) where
     walk-cycle low stuck zero t tail p c =
         absurd (omega (arith, c, pigeonhole n left (t ∷ tail) (p .0) (λ u a. (low u (p .1 u a), p .1 u a))))
     walk-cycle low stuck (suc m) t tail p c =
-        let f = lowest-found low stuck t (p .1 t (among-first t tail)) in
+        let f = stuck-lowest low stuck t (p .1 t (among-first t tail)) in
         go (f .0) (f .1) (f .2) (among (t ∷ tail) (f .0)) refl (λ s q d. walk-cycle low stuck m s (t ∷ tail) q d)
       where
         back : ℕ → Option ℕ

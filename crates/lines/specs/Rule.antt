@@ -27,10 +27,10 @@ abbrev pub up-to : ℕ → List ℕ → List ℕ
 up-to x xs = take (suc (place-of x xs)) xs
 
 -- the lowest number of a list
-unfoldable pub lowest : List ℕ → ℕ
-lowest [] = 0
-lowest (x ∷ []) = x
-lowest (x ∷ y ∷ ys) = min x (lowest (y ∷ ys))
+unfoldable pub lowest-member : List ℕ → ℕ
+lowest-member [] = 0
+lowest-member (x ∷ []) = x
+lowest-member (x ∷ y ∷ ys) = min x (lowest-member (y ∷ ys))
 
 -- the list from place k on, and then what stands before that place
 abbrev pub turned : ℕ → List ℕ → List ℕ
@@ -38,7 +38,7 @@ turned k xs = drop k xs ++ take k xs
 
 -- the list turned so that it starts with its lowest number
 unfoldable pub to-lowest : List ℕ → List ℕ
-to-lowest xs = turned (place-of (lowest xs) xs) xs
+to-lowest xs = turned (place-of (lowest-member xs) xs) xs
 
 -- "and so on until a transaction comes again. The transactions from its first coming on form the cycle." A step goes back from t, the
 -- front of the path, to some s. Where s is not on the path, it is put in front, so that the path stands along the edges. Where it is, the

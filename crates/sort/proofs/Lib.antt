@@ -1,7 +1,7 @@
 pub mod Waits
 pub mod Parts
-pub mod Runs
-pub mod Walks
-pub mod Cut
-pub mod Ends
+pub mod PlacingLoop
+pub mod WalkLoop
+pub mod LineWritten
+pub mod CycleWritten
 pub mod Determined

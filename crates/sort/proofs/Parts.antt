@@ -9,7 +9,7 @@ use mathlib.Core.List.{List, [], _∷_, _++_}
 use native.Mathlib.Decide.{ℕ-discrete}
 use lib.ListN.{length, take, drop, getD, set, length-drop}
 use lib.Seq.{sets, slice, length-slice, slice-empty, take-suc, getD-take, getD-drop, drop-append-le, length-take-le}
-use Rattle.lines.specs.Rule.{among, place-of, lowest}
+use Rattle.lines.specs.Rule.{among, place-of, lowest-member}
 use Rattle.lines.proofs.Lists.{place-low, place-entry, place-before}
 use Rattle.lines.proofs.Rings.{lowest-place-is}
 
@@ -74,7 +74,7 @@ module _ (buffer : List ℕ) (at t : ℕ) (there : among (drop at buffer) t ≡ 
 pub part-lowest : (buffer : List ℕ) (at end low : ℕ) → end ≤ length buffer → at ≤ low → low < end
     → ((j : ℕ) → at ≤ j → j < end → getD buffer low 0 ≤ getD buffer j 0)
     → ((j : ℕ) → at ≤ j → j < low → getD buffer low 0 < getD buffer j 0)
-    → low ≡ at + place-of (lowest (slice at end buffer)) (slice at end buffer)
+    → low ≡ at + place-of (lowest-member (slice at end buffer)) (slice at end buffer)
 part-lowest buffer at end low fits a l f g = omega (arith, a, lowest-place-is (slice at end buffer) (low - at) inside all before)
   where
     long : length (slice at end buffer) ≡ end - at

@@ -16,7 +16,7 @@ use Rattle.sets.proofs.Truth.{clash, refuted}
 use Rattle.sets.proofs.From.{FirstFrom, first-from-view}
 use Rattle.sets.proofs.Counts.{without-said}
 use Rattle.lines.specs.Rule.{predecessor, lowest-predecessor}
-use Rattle.sort.specs.Kept.{Kept, Searched}
+use Rattle.sort.specs.WaitsFor.{Kept, Searched}
 use Rattle.lines.proofs.Chosen.{predecessor-more}
 use Rattle.lines.proofs.Waiting.{Free, Tried}
 

@@ -1,3 +1,3 @@
-pub mod Kept
+pub mod WaitsFor
 pub mod Numbers
 pub mod Promises

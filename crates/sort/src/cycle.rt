@@ -6,7 +6,7 @@ ghost use lib.ListN.{length, drop};
 ghost use lib.Seq.{sets};
 ghost use Rattle.sets.specs.Bits.{numbers};
 ghost use Rattle.lines.specs.Rule.{among, up-to, to-lowest};
-ghost use Rattle.sort.specs.Kept.{Kept, walked};
+ghost use Rattle.sort.specs.WaitsFor.{Kept, walked};
 use crate::part::place_of;
 use crate::part::place_of_lowest;
 use crate::part::write_part;

@@ -5,7 +5,7 @@ ghost use lib.ListN.{length};
 ghost use lib.Seq.{sets};
 ghost use Rattle.sets.specs.Bits.{numbers, has, in-row};
 ghost use Rattle.lines.specs.Rule.{placed, rest};
-ghost use Rattle.sort.specs.Kept.{Kept, Searched, Blocked};
+ghost use Rattle.sort.specs.WaitsFor.{Kept, Searched, Blocked};
 use crate::search::Ready;
 use crate::search::lowest_ready;
 use sets::NUMBERS;

@@ -5,7 +5,7 @@ ghost use Prim.Native.Nat.{_+_, _<_, _≤_};
 ghost use lib.ListN.{length, drop};
 ghost use lib.Seq.{sets, slice};
 ghost use Rattle.sets.specs.Bits.{numbers};
-ghost use Rattle.lines.specs.Rule.{among, place-of, lowest};
+ghost use Rattle.lines.specs.Rule.{among, place-of, lowest-member};
 use sets::NUMBERS;
 
 // Where t first stands in the buffer from `at` on.
@@ -25,7 +25,7 @@ pub(crate) fn place_of(buffer: &[u8; NUMBERS], at: usize, t: u8) -> usize
 pub(crate) fn place_of_lowest(buffer: &[u8; NUMBERS], at: usize, end: usize) -> usize
     requires { ⌜ length (now buffer) ≡ numbers ⌝ }
     requires { ⌜ (at < end) × (end ≤ numbers) ⌝ }
-    ensures { λ r. ⌜ r ≡ at + place-of (lowest (slice at end (now (buffer .entry)))) (slice at end (now (buffer .entry))) ⌝ }
+    ensures { λ r. ⌜ r ≡ at + place-of (lowest-member (slice at end (now (buffer .entry)))) (slice at end (now (buffer .entry))) ⌝ }
 {
     let mut low = at;
     for k in at..end {

@@ -3,7 +3,7 @@ ghost use mathlib.Core.Path.{_≡_};
 ghost use mathlib.Core.Option.{none};
 ghost use Rattle.sets.specs.Bits.{numbers, has, in-row};
 ghost use Rattle.lines.specs.Rule.{next};
-ghost use Rattle.sort.specs.Kept.{Kept, Searched, Blocked};
+ghost use Rattle.sort.specs.WaitsFor.{Kept, Searched, Blocked};
 ghost use Rattle.sort.specs.Numbers.{ready-says};
 use sets::NUMBERS;
 

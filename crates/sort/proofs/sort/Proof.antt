@@ -1,4 +1,4 @@
--- `sort::sort` meets its contract: the laws in Ends say what the rule gives where none is left, and where one is.
+-- `sort::sort` meets its contract: the laws in Endings say what the rule gives where none is left, and where one is.
 -- Assumes nothing.
 use borrow.Author.Needs.{needs}
 use native.Mathlib.Omega.{arith}
@@ -13,10 +13,10 @@ use Rattle.sets.specs.Bits.{numbers, has, in-row}
 use Rattle.sets.proofs.Tables.{empty-entry}
 use Rattle.sets.proofs.From.{FirstFrom}
 use Rattle.lines.specs.Rule.{LineOrCycle, line, cycle, length-of, members-of, placed, rest}
-use Rattle.sort.specs.Kept.{back}
+use Rattle.sort.specs.WaitsFor.{back}
 use Rattle.sort.proofs.Waits.{found-from, kept-start, searched-start}
 use Rattle.lines.proofs.Endings.{ends-in-line, ends-in-cycle}
-use Rattle.sort.proofs.Ends.{line-fits, front-written}
+use Rattle.sort.proofs.LineWritten.{line-fits, front-written}
 use Rattle.sort.proofs.sort.Statement.{statement}
 use Rattle.sort.proofs.sort.Tie as tie
 

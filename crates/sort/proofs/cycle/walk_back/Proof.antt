@@ -7,8 +7,8 @@ use Prim.Native.Nat.{ℕ, _≤_}
 use denote.Ref.{now}
 use borrow.Author.Tests.{not-true, not-false}
 use Rattle.sets.specs.Bits.{has}
-use Rattle.sort.specs.Kept.{Kept}
-use Rattle.sort.proofs.Walks.{OnPath, path-start, path-room, path-step, comes-again, walk-done}
+use Rattle.sort.specs.WaitsFor.{Kept}
+use Rattle.sort.proofs.WalkLoop.{OnPath, path-start, path-room, path-step, comes-again, walk-done}
 use Rattle.sort.proofs.cycle.walk_back.Statement.{statement}
 use Rattle.sort.proofs.cycle.walk_back.Tie as tie
 

@@ -1,4 +1,4 @@
--- `sort::cycle::write_cycle` meets its contract: the laws in Cut say what the two parts written are. Assumes nothing.
+-- `sort::cycle::write_cycle` meets its contract: the laws in CycleWritten say what the two parts written are. Assumes nothing.
 use borrow.Author.Needs.{needs}
 use native.Mathlib.Omega.{arith}
 use mathlib.Core.Path.{_∙_, ap}
@@ -8,7 +8,7 @@ use lib.ListN.{length}
 use lib.Seq.{sets, slice}
 use denote.Ref.{now}
 use Rattle.lines.specs.Rule.{to-lowest}
-use Rattle.sort.proofs.Cut.{last-low, low-from, low-to, ring-written, ring-count}
+use Rattle.sort.proofs.CycleWritten.{last-low, low-from, low-to, ring-written, ring-count}
 use Rattle.sort.proofs.cycle.write_cycle.Statement.{statement}
 use Rattle.sort.proofs.cycle.write_cycle.Tie as tie
 

@@ -11,11 +11,11 @@ use denote.Ref.{now}
 use Rattle.sets.specs.Bits.{numbers, has, in-row}
 use Rattle.sets.proofs.Counts.{passed-before}
 use Rattle.lines.specs.Rule.{next}
-use Rattle.sort.specs.Kept.{Kept, Searched}
+use Rattle.sort.specs.WaitsFor.{Kept, Searched}
 use Rattle.sort.specs.Numbers.{ready-says}
 use Rattle.lines.proofs.Chosen.{next-is}
 use Rattle.sort.proofs.Waits.{taken, searched-fewer}
-use Rattle.sort.proofs.Runs.{ToPlace, place-start, place-room, place-one, done-count, done-line, done-rest}
+use Rattle.sort.proofs.PlacingLoop.{ToPlace, place-start, place-room, place-one, done-count, done-line, done-rest}
 use Rattle.sort.proofs.line.place_all.Statement.{statement}
 use Rattle.sort.proofs.line.place_all.Tie as tie
 

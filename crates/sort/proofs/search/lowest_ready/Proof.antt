@@ -14,7 +14,7 @@ use Rattle.sets.specs.Bits.{numbers, has, in-row}
 use Rattle.sets.specs.Search.{first-from, without}
 use Rattle.sets.proofs.Members.{has-low}
 use Rattle.sets.proofs.From.{FirstFrom}
-use Rattle.sort.specs.Kept.{Kept, Searched}
+use Rattle.sort.specs.WaitsFor.{Kept, Searched}
 use Rattle.lines.proofs.Waiting.{Free, Tried, free-on, free-past, first-is-lowest, tried-on, ready-found, none-found}
 use Rattle.sort.proofs.Waits.{taken, kept-in, found-from}
 use Rattle.sort.proofs.Waits.{kept-store, searched-store, tried-store}

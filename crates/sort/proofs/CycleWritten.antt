@@ -7,8 +7,8 @@ use mathlib.Core.Bool.{true}
 use mathlib.Core.List.{List}
 use lib.ListN.{length, take, drop, length-drop}
 use lib.Seq.{sets, slice, take-add, take-take, drop-at, drop-drop, length-take-le}
-use Rattle.lines.specs.Rule.{among, place-of, lowest, turned, to-lowest, up-to}
-use Rattle.lines.proofs.Rings.{length-turned, lowest-in, to-lowest-said}
+use Rattle.lines.specs.Rule.{among, place-of, lowest-member, turned, to-lowest, up-to}
+use Rattle.lines.proofs.Rings.{length-turned, lowest-member-in, to-lowest-said}
 use Rattle.lines.proofs.Lists.{place-low}
 use Rattle.sort.proofs.Parts.{sets-append, place-in}
 
@@ -44,15 +44,15 @@ module _ (path : List ℕ) (at again : ℕ) (there : among (drop at path) again 
         ap (λ (e : ℕ). slice at e path) end
         ∙ slice-take path at (suc (place-of again (drop at path))) (omega (arith, found, last-low))
 
-    module _ (low : ℕ) (lowest-there : low ≡ at + place-of (lowest (slice at (last + 1) path)) (slice at (last + 1) path)) where
+    module _ (low : ℕ) (lowest-there : low ≡ at + place-of (lowest-member (slice at (last + 1) path)) (slice at (last + 1) path)) where
       abbrev p : ℕ
-      p = place-of (lowest ring) ring
+      p = place-of (lowest-member ring) ring
 
       low-place : low ≡ at + p
-      low-place = lowest-there ∙ ap (λ (xs : List ℕ). at + place-of (lowest xs) xs) ring-part
+      low-place = lowest-there ∙ ap (λ (xs : List ℕ). at + place-of (lowest-member xs) xs) ring-part
 
       p-low : p < length ring
-      p-low = place-low (lowest ring) ring (lowest-in ring (omega (arith, ring-length, found)))
+      p-low = place-low (lowest-member ring) ring (lowest-member-in ring (omega (arith, ring-length, found)))
 
       pub low-from : at ≤ low
       low-from = omega (arith, low-place)

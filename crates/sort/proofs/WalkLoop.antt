@@ -16,7 +16,7 @@ use Rattle.sets.proofs.Members.{has-zero}
 use Rattle.sets.proofs.Counts.{count-low}
 use Rattle.lines.specs.Rule.{among, walk, up-to}
 use Rattle.lines.specs.Lines.{NoneTwice}
-use Rattle.sort.specs.Kept.{back}
+use Rattle.sort.specs.WaitsFor.{back}
 use Rattle.lines.proofs.Lists.{among-nil, among-cons, among-cases, pigeonhole}
 use Rattle.lines.proofs.Clauses.{walk-steps}
 
