@@ -1,3 +1,4 @@
+pub mod ByExample
 pub mod Lists
 pub mod Stands
 pub mod Chosen
