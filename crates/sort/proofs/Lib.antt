@@ -1,4 +1,5 @@
 pub mod Waits
+pub mod SearchLoop
 pub mod Parts
 pub mod PlacingLoop
 pub mod WalkLoop

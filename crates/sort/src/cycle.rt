@@ -1,12 +1,12 @@
 // The cycle: the walk back from each transaction to the one that it waits for, and the part of its path that is the cycle.
 ghost use mathlib.Core.Path.{_≡_};
-ghost use mathlib.Core.Bool.{true};
 ghost use Prim.Native.Nat.{_<_};
-ghost use lib.ListN.{length, drop};
+ghost use lib.ListN.{length};
 ghost use lib.Seq.{sets};
 ghost use Rattle.sets.specs.Bits.{numbers};
-ghost use Rattle.lines.specs.Rule.{among, up-to, to-lowest};
+ghost use Rattle.lines.specs.Rule.{to-lowest};
 ghost use Rattle.sort.specs.WaitsFor.{Kept, walked};
+ghost use Rattle.sort.specs.Promises.{WalksBack};
 use crate::part::place_of;
 use crate::part::place_of_lowest;
 use crate::part::write_part;
@@ -24,9 +24,7 @@ fn walk_back(waits: &[u8; NUMBERS], first: usize, path: &mut [u8; NUMBERS]) -> W
     requires { ⌜ Kept (now waits) ⌝ }
     requires { ⌜ first < numbers ⌝ }
     requires { ⌜ length (now path) ≡ numbers ⌝ }
-    ensures { λ r. ⌜ length (now (path .exit)) ≡ numbers ⌝ }
-    ensures { λ r. ⌜ among (drop (r .at) (now (path .exit))) (r .again) ≡ true ⌝ }
-    ensures { λ r. ⌜ up-to (r .again) (drop (r .at) (now (path .exit))) ≡ walked (now (waits .entry)) first ⌝ }
+    ensures { λ r. ⌜ WalksBack (now (waits .entry)) first (now (path .exit)) (r .at) (r .again) ⌝ }
 {
     let mut at = NUMBERS;
     let mut seen: u64 = 0;

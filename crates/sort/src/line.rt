@@ -1,11 +1,7 @@
 // The line: transactions placed by the rule until none can be placed.
-ghost use mathlib.Core.Path.{_≡_};
-ghost use Prim.Native.Nat.{ℕ};
-ghost use lib.ListN.{length};
-ghost use lib.Seq.{sets};
-ghost use Rattle.sets.specs.Bits.{numbers, has, in-row};
-ghost use Rattle.lines.specs.Rule.{placed, rest};
-ghost use Rattle.sort.specs.WaitsFor.{Kept, Searched, Blocked};
+ghost use Rattle.sets.specs.Bits.{has, in-row};
+ghost use Rattle.sort.specs.WaitsFor.{Kept, Searched};
+ghost use Rattle.sort.specs.Promises.{PlacesAll};
 use crate::search::Ready;
 use crate::search::lowest_ready;
 use sets::NUMBERS;
@@ -26,11 +22,7 @@ pub(crate) fn place_all(
 ) -> Placed
     requires { ⌜ Kept (now waits) ⌝ }
     requires { ⌜ Searched (in-row (now table)) (has set) (now waits) ⌝ }
-    ensures { λ r. ⌜ r .count ≡ length (placed numbers (in-row (now (table .entry))) numbers (has set)) ⌝ }
-    ensures { λ r. ⌜ now (line .exit) ≡ sets (now (line .entry)) 0 (placed numbers (in-row (now (table .entry))) numbers (has set)) ⌝ }
-    ensures { λ r. ⌜ ((t : ℕ) → has (r .left) t ≡ rest numbers (in-row (now (table .entry))) numbers (has set) t) ⌝ }
-    ensures { λ r. ⌜ Kept (now (waits .exit)) ⌝ }
-    ensures { λ r. ⌜ Blocked (in-row (now (table .entry))) (has (r .left)) (now (waits .exit)) ⌝ }
+    ensures { λ r. ⌜ PlacesAll (in-row (now (table .entry))) (has set) (now (line .entry)) (r .count) (has (r .left)) (now (line .exit)) (now (waits .exit)) ⌝ }
 {
     let mut left = set;
     let mut count: usize = 0;

@@ -1,10 +1,7 @@
 // The search for the transaction that is ready for the next place of the line.
-ghost use mathlib.Core.Path.{_≡_};
-ghost use mathlib.Core.Option.{none};
-ghost use Rattle.sets.specs.Bits.{numbers, has, in-row};
-ghost use Rattle.lines.specs.Rule.{next};
-ghost use Rattle.sort.specs.WaitsFor.{Kept, Searched, Blocked};
-ghost use Rattle.sort.specs.Numbers.{ready-says};
+ghost use Rattle.sets.specs.Bits.{has, in-row};
+ghost use Rattle.sort.specs.WaitsFor.{Kept, Searched};
+ghost use Rattle.sort.specs.Promises.{FindsReady};
 use sets::NUMBERS;
 
 // The transaction that is ready, or none.
@@ -20,10 +17,7 @@ pub enum Ready {
 pub(crate) fn lowest_ready(table: &[u64; NUMBERS], left: u64, waits: &mut [u8; NUMBERS]) -> Ready
     requires { ⌜ Kept (now waits) ⌝ }
     requires { ⌜ Searched (in-row (now table)) (has left) (now waits) ⌝ }
-    ensures { λ r. ⌜ ready-says r ≡ next numbers (in-row (now (table .entry))) (has left) ⌝ }
-    ensures { λ r. ⌜ Kept (now (waits .exit)) ⌝ }
-    ensures { λ r. ⌜ Searched (in-row (now (table .entry))) (has left) (now (waits .exit)) ⌝ }
-    ensures { λ r. ⌜ (next numbers (in-row (now (table .entry))) (has left) ≡ none → Blocked (in-row (now (table .entry))) (has left) (now (waits .exit))) ⌝ }
+    ensures { λ r. ⌜ FindsReady (in-row (now (table .entry))) (has left) r (now (waits .exit)) ⌝ }
 {
     let mut tried: usize = 0;
     'search: loop {

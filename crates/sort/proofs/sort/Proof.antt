@@ -49,7 +49,7 @@ module _ (c : tie.After-member-from) where
   first-left = found-from left 0 first (c .member-from .ensures)
 
   same-rest : (t : ℕ) → left t ≡ rest numbers edge numbers set t
-  same-rest = c .before .place-all .ensures .1 .1 .0
+  same-rest = c .before .place-all .ensures .same-rest
 
   -- the buffer that the line was placed in
   abbrev blank : List ℕ
@@ -59,13 +59,13 @@ module _ (c : tie.After-member-from) where
   buffer = c .before .place-all .last .1 .1 .1 .0
 
   is-placed : buffer ≡ sets blank 0 (placed numbers edge numbers set)
-  is-placed = c .before .place-all .ensures .1 .0
+  is-placed = c .before .place-all .ensures .written
 
   buffer-whole : length buffer ≡ numbers
   buffer-whole = ap length is-placed ∙ length-sets blank 0 (placed numbers edge numbers set) ∙ length-replicate {A = ℕ} 64 0
 
   counted : c .before .place-all .result .count ≡ length (placed numbers edge numbers set)
-  counted = c .before .place-all .ensures .0
+  counted = c .before .place-all .ensures .counted
 
   fits : c .before .place-all .result .count ≤ numbers
   fits = rw counted (line-fits edge set)
@@ -95,7 +95,7 @@ low : (c : tie.Else1) → first (c .before) < numbers
 low c = omega (arith, first-left (c .before) .within, c .if1 .left)
 
 write-cycle-requires : tie.Need-write-cycle-requires
-write-cycle-requires c κs = let e = c .before .before in (e .before .before .place-all .ensures .1 .1 .1 .0, low e)
+write-cycle-requires c κs = let e = c .before .before in (e .before .before .place-all .ensures .kept, low e)
 
 returns-2 : tie.Need-returns-2
 returns-2 c =
@@ -103,7 +103,7 @@ returns-2 c =
     let m = e .before in
     let to = now (m .before .before .before .before .args .members) in
     let waits = m .before .place-all .last .1 .1 .0 in
-    let blocked = m .before .place-all .ensures .1 .1 .1 .1 in
+    let blocked = m .before .place-all .ensures .blocked in
     let is-cycle = ends-in-cycle numbers (edge m) (set m) (left m) (same-rest m) (back waits) blocked (first m) (first-left m) (low e) in
     record {
       says = ap cycle (c .write-cycle .ensures .0) ∙ sym (ap length-of is-cycle);

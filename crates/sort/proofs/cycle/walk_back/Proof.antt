@@ -74,16 +74,15 @@ cast-t14 c = omega (arith, c .before .before .loop .inv .again-low, c .before .b
 
 returns : tie.Need-returns Inv-loop μ-loop
 returns c =
-    let s = c .before .before .before in
     let l = c .before .before .loop in
+    let a = c .before .before .before .args in
     let old : has (l .seen) (l .again) ≡ true =
-    sym (c .before .has-member .ensures) ∙ not-false (c .before .has-member .result) (c .if1 .left) in (
-      l .inv .whole,
-      (
-        comes-again (now (s .args .waits)) (s .args .first) (l .path) (l .at) (l .seen) (l .again) (l .inv) old,
-        walk-done (now (s .args .waits)) (s .args .first) (l .path) (l .at) (l .seen) (l .again) (l .inv) old,
-      ),
-    )
+    sym (c .before .has-member .ensures) ∙ not-false (c .before .has-member .result) (c .if1 .left) in
+    record {
+      whole = l .inv .whole;
+      comes-again = comes-again (now (a .waits)) (a .first) (l .path) (l .at) (l .seen) (l .again) (l .inv) old;
+      is-walk = walk-done (now (a .waits)) (a .first) (l .path) (l .at) (l .seen) (l .again) (l .inv) old;
+    }
 
 pub walk-back-spec : {M : Type 1} → statement M
 walk-back-spec =

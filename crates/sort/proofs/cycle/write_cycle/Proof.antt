@@ -36,7 +36,7 @@ module _ (c : tie.After-place-of) where
   last = c .place-of .result
 
   inside : last < 64
-  inside = omega (arith, last-low path at again (w .walk-back .ensures .1 .0) last (c .place-of .ensures), w .walk-back .ensures .0)
+  inside = omega (arith, last-low path at again (w .walk-back .ensures .comes-again) last (c .place-of .ensures), w .walk-back .ensures .whole)
 
 add-end : tie.Need-add-end
 add-end c = omega (arith, inside c)
@@ -44,7 +44,7 @@ add-end c = omega (arith, inside c)
 place-of-lowest-requires : tie.Need-place-of-lowest-requires
 place-of-lowest-requires c κs =
     let f = c .before in
-    (w f .walk-back .ensures .0, (omega (arith, f .place-of .ensures), omega (arith, inside f)))
+    (w f .walk-back .ensures .whole, (omega (arith, f .place-of .ensures), omega (arith, inside f)))
 
 -- when the lowest has been found
 module _ (c : tie.After-place-of-lowest) where
@@ -56,18 +56,18 @@ module _ (c : tie.After-place-of-lowest) where
 
   from : at f ≤ low
   from =
-      low-from (path f) (at f) (again f) (w f .walk-back .ensures .1 .0) (last f) (f .place-of .ensures)
+      low-from (path f) (at f) (again f) (w f .walk-back .ensures .comes-again) (last f) (f .place-of .ensures)
       low (c .place-of-lowest .ensures)
 
   to : low ≤ last f
   to =
-      low-to (path f) (at f) (again f) (w f .walk-back .ensures .1 .0) (last f) (f .place-of .ensures)
+      low-to (path f) (at f) (again f) (w f .walk-back .ensures .comes-again) (last f) (f .place-of .ensures)
       low (c .place-of-lowest .ensures)
 
 write-part-requires : tie.Need-write-part-requires
 write-part-requires c κs =
     let l = c .before .before in
-    (w (f l) .walk-back .ensures .0, ((omega (arith, to l, inside (f l)), omega (arith, inside (f l))), omega (arith, inside (f l))))
+    (w (f l) .walk-back .ensures .whole, ((omega (arith, to l, inside (f l)), omega (arith, inside (f l))), omega (arith, inside (f l))))
 
 sub-write-part : tie.Need-sub-write-part
 sub-write-part c = let l = c .before .before .before .before .before in omega (arith, to l)
@@ -75,7 +75,7 @@ sub-write-part c = let l = c .before .before .before .before .before in omega (a
 write-part-requires-2 : tie.Need-write-part-requires-2
 write-part-requires-2 c κs =
     let l = c .before .before .before .before .before in
-    (w (f l) .walk-back .ensures .0, ((omega (arith, from l), omega (arith, from l, to l, inside (f l))), omega (arith, from l, to l, inside (f l))))
+    (w (f l) .walk-back .ensures .whole, ((omega (arith, from l), omega (arith, from l, to l, inside (f l))), omega (arith, from l, to l, inside (f l))))
 
 sub-result : tie.Need-sub-result
 sub-result c = let l = c .before .before .before .before .before .before in omega (arith, from l, to l)
@@ -85,8 +85,8 @@ returns c =
     let first-part = c .before .before .before in
     let l = first-part .before .before .before in
     let g = f l in
-    let there = w g .walk-back .ensures .1 .0 in
-    let is-walk = w g .walk-back .ensures .1 .1 in
+    let there = w g .walk-back .ensures .comes-again in
+    let is-walk = w g .walk-back .ensures .is-walk in
     let is-last = g .place-of .ensures in
     let is-lowest = l .place-of-lowest .ensures in
     let to-start = now (w g .before .before .args .members) in (
