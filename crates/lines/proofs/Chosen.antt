@@ -1,4 +1,4 @@
--- Laws of the rule's tests: who is a predecessor, who is ready, who is next. Assumes nothing.
+-- Laws of the rule's tests: who is a predecessor, who is ready, who is next.
 use Prim.Native.Nat.{ℕ, _<_}
 use mathlib.Core.Path.{_≡_, refl, sym, _∙_, ap}
 use mathlib.Core.Bool.{Bool, true, false, _&&_, not}

@@ -1,5 +1,5 @@
 -- The rule's own steps, as laws: what is placed and who is left, a step of the walk, and how the sort ends. Nothing else opens these
--- definitions. Assumes nothing.
+-- definitions.
 use Prim.Native.Nat.{ℕ, zero, suc, _<_}
 use mathlib.Core.Path.{_≡_, refl, _∙_}
 use mathlib.Core.Bool.{Bool, true, false, cond}

@@ -1,5 +1,5 @@
 -- Laws of lists of numbers: what is among them, the place of a number, none twice, and that numbers of a set without one twice are no
--- more than the set has. Assumes nothing.
+-- more than the set has.
 use Prim.Native.Nat.{ℕ, zero, suc, _+_, _<_, _≤_}
 use native.Mathlib.Omega.{arith}
 use native.Mathlib.Decide.{ℕ-discrete}
@@ -57,23 +57,29 @@ among-append (x ∷ xs) ys t = ap (λ (b : Bool). eqb x t || b) (among-append xs
 abbrev pub Apart : List ℕ → List ℕ → Type 0
 Apart xs ys = (t : ℕ) → among xs t ≡ true → among ys t ≡ false
 
-pub twice-split : (xs ys : List ℕ) → NoneTwice (xs ++ ys) → NoneTwice xs × NoneTwice ys × Apart xs ys
-twice-split [] ys h = (tt, h, λ t a. absurd (clash (among [] t) a (among-nil t)))
+pub record NoneInBoth (xs ys : List ℕ) : Type 0 where
+  pub first : NoneTwice xs
+  pub second : NoneTwice ys
+  pub apart : Apart xs ys
+
+pub twice-split : (xs ys : List ℕ) → NoneTwice (xs ++ ys) → NoneInBoth xs ys
+twice-split [] ys h = record { first = tt; second = h; apart = λ t a. absurd (clash (among [] t) a (among-nil t)) }
 twice-split (x ∷ xs) ys h = after (twice-split xs ys (h .1))
   where
-    apart : among (xs ++ ys) x ≡ false → (among xs x ≡ false) × (among ys x ≡ false)
-    apart f = let e = sym (among-append xs ys x) ∙ f in (or-left (among xs x) (among ys x) e, or-right (among xs x) (among ys x) e)
+    in-neither : (among xs x || among ys x) ≡ false
+    in-neither = sym (among-append xs ys x) ∙ h .0
 
-    after : NoneTwice xs × NoneTwice ys × Apart xs ys → NoneTwice (x ∷ xs) × NoneTwice ys × Apart (x ∷ xs) ys
-    after w = (
-      (apart (h .0) .0, w .0),
-      w .1,
-      λ t a.
-          ⊎-elim
-          (λ (e : x ≡ t). ap (among ys) (sym e) ∙ apart (h .0) .1)
-          (λ (e : among xs t ≡ true). w .2 t e)
-          (among-cases x xs t a),
-    )
+    after : NoneInBoth xs ys → NoneInBoth (x ∷ xs) ys
+    after w =
+        record {
+          first = (or-left (among xs x) (among ys x) in-neither, w .first);
+          second = w .second;
+          apart = λ t a.
+              ⊎-elim
+              (λ (e : x ≡ t). ap (among ys) (sym e) ∙ or-right (among xs x) (among ys x) in-neither)
+              (λ (e : among xs t ≡ true). w .apart t e)
+              (among-cases x xs t a);
+        }
 
 pub twice-join : (xs ys : List ℕ) → NoneTwice xs → NoneTwice ys → Apart xs ys → NoneTwice (xs ++ ys)
 twice-join [] ys h k a = k
@@ -86,7 +92,7 @@ apart-back : (xs ys : List ℕ) → Apart xs ys → Apart ys xs
 apart-back xs ys a t e = refuted (among xs t) (λ h. clash (among ys t) e (a t h))
 
 pub twice-swap : (xs ys : List ℕ) → NoneTwice (xs ++ ys) → NoneTwice (ys ++ xs)
-twice-swap xs ys h = let w = twice-split xs ys h in twice-join ys xs (w .1) (w .0) (apart-back xs ys (w .2))
+twice-swap xs ys h = let w = twice-split xs ys h in twice-join ys xs (w .second) (w .first) (apart-back xs ys (w .apart))
 
 -- the list up to and with the first s in it
 pub record UpTo (s : ℕ) (xs : List ℕ) : Type 0 where

@@ -1,6 +1,6 @@
 -- The line. Placing one that is ready, again and again until none is left, gives a line that keeps every edge, and every such line is made
 -- in that way; the rule's is the smallest, since it takes the lowest that any of them could take. From a stuck rest there is none: of the
--- rest, one would stand first in it, before the predecessor that it waits for. Assumes nothing.
+-- rest, one would stand first in it, before the predecessor that it waits for.
 use Prim.Native.Nat.{ℕ, zero, suc, _<_, _≤_}
 use native.Mathlib.Omega.{arith}
 use native.Mathlib.Decide.{ℕ-discrete, decLt}
@@ -26,38 +26,41 @@ use Rattle.lines.proofs.Chosen.{is-ready, ready-left, ready-free, not-r
 
 module _ (edge : ℕ → ℕ → Bool) where
   -- of a set with one in the list, one stands first in it
-  abbrev FirstOf : (ℕ → Bool) → List ℕ → Type 0
-  FirstOf left xs = (t : ℕ) × (left t ≡ true) × ((s : ℕ) → stands-before xs s t ≡ true → left s ≡ false)
+  record FirstOf (left : ℕ → Bool) (xs : List ℕ) : Type 0 where
+    pub one : ℕ
+    pub is-left : left one ≡ true
+    pub none-before : (s : ℕ) → stands-before xs s one ≡ true → left s ≡ false
 
   first-of : (left : ℕ → Bool) (xs : List ℕ) (u : ℕ) → NoneTwice xs → among xs u ≡ true → left u ≡ true → FirstOf left xs
   first-of left [] u d a l = absurd (clash (among [] u) a (among-nil u))
   first-of left (x ∷ xs) u d a l = go (left x) refl (λ q. first-of left xs u (d .1) (sym (among-other x xs u q) ∙ a) l)
     where
       go : (b : Bool) → left x ≡ b → ((x ≡ u → ⊥) → FirstOf left xs) → FirstOf left (x ∷ xs)
-      go true e w = (x, e, λ s h. absurd (clash (among xs x) (after-first x xs s x h) (d .0)))
+      go true e w =
+          record { one = x; is-left = e; none-before = λ s h. absurd (clash (among xs x) (after-first x xs s x h) (d .0)) }
       go false e w =
-          let f = w (λ (q : x ≡ u). differ left u x l e (sym q)) in (
-            f .0,
-            f .1,
-            λ s h.
+          let f = w (λ (q : x ≡ u). differ left u x l e (sym q)) in
+          record {
+            one = f .one;
+            is-left = f .is-left;
+            none-before = λ s h.
                 ⊎-elim
-                (λ (v : (x ≡ s) × (among xs (f .0) ≡ true)). ap left (sym (v .0)) ∙ e)
-                (λ (v : stands-before xs s (f .0) ≡ true). f .2 s v)
-                (stands-cases x xs s (f .0) h),
-          )
+                (λ (v : (x ≡ s) × (among xs (f .one) ≡ true)). ap left (sym (v .0)) ∙ e)
+                (λ (v : stands-before xs s (f .one) ≡ true). f .none-before s v)
+                (stands-cases x xs s (f .one) h);
+          }
 
   -- THEOREM: from a rest in which every member has a predecessor in the rest no line exists, neither of the rest nor of a set that has it
   pub no-line : (set left : ℕ → Bool) → Stuck edge left → ((t : ℕ) → left t ≡ true → set t ≡ true) → (xs : List ℕ) → Line edge set xs → ⊥
   no-line set left stuck sub xs l =
-      let u = stuck .some-left in
-      let f = first-of left xs (u .0) (l .none-twice) (l .all-and-only (u .0) ∙ sub (u .0) (u .1)) (u .1) in
-      let t = f .0 in
-      let s = stuck .waits t (f .1) .0 in
-      let h = stuck .waits t (f .1) .1 in
-      let there = predecessor-left edge left t s h in
-      let other = predecessor-other edge left t s h in
-      let e = is-within edge set s t (sub s there) (sub t (f .1)) other (predecessor-edge edge left t s h) in
-      clash (left s) there (f .2 s (l .keeps-edges s t e))
+      let (u, u-left) = stuck .some-left in
+      let f = first-of left xs u (l .none-twice) (l .all-and-only u ∙ sub u u-left) u-left in
+      let t = f .one in
+      let (s, before) = stuck .waits t (f .is-left) in
+      let s-left = predecessor-left edge left t s before in
+      let other = predecessor-other edge left t s before in
+      let e = is-within edge set s t (sub s s-left) (sub t (f .is-left)) other (predecessor-edge edge left t s before) in
+      clash (left s) s-left (f .none-before s (l .keeps-edges s t e))
 
   -- a line has no cycle: along a path of edges, each stands before the next
   path-stands : (set : ℕ → Bool) (xs : List ℕ) → Line edge set xs → (i j : ℕ) → Precedes (edge-within edge set) i j

@@ -1,5 +1,5 @@
 -- The cycle. The walk from a stuck rest never lacks a predecessor, and no one is met twice on the path; so the path would outgrow the rest
--- if none came again. What stands before the first coming is left behind; the rest of the path, turned, is still a ring. Assumes nothing.
+-- if none came again. What stands before the first coming is left behind; the rest of the path, turned, is still a ring.
 use Prim.Native.Nat.{ℕ, zero, suc, _+_, _<_, _≤_, min}
 use native.Mathlib.Omega.{arith}
 use native.Mathlib.Decide.{decLt}
@@ -161,26 +161,29 @@ module _ (edge : ℕ → ℕ → Bool) where
       (turned-cycle set xs (place-of (lowest-member xs) xs) (lowest-place xs (omega (arith, c .at-least-two))) c)
 
   -- what a path is: none twice, all of them left, each with an edge to the next
-  abbrev pub Path : (ℕ → Bool) → List ℕ → Type 0
-  Path left path = NoneTwice path × ((t : ℕ) → among path t ≡ true → left t ≡ true) × Linked (edge-within edge left) path
+  pub record Path (left : ℕ → Bool) (path : List ℕ) : Type 0 where
+    pub none-twice : NoneTwice path
+    pub all-left : (t : ℕ) → among path t ≡ true → left t ≡ true
+    pub linked : Linked (edge-within edge left) path
 
   module _ (left : ℕ → Bool) (t : ℕ) (tail : List ℕ) (p : Path left (t ∷ tail)) (s : ℕ) (before : predecessor edge left t s ≡ true) where
     link : edge-within edge left s t ≡ true
     link =
-        is-within edge left s t (predecessor-left edge left t s before) (p .1 t (among-first t tail))
+        is-within edge left s t (predecessor-left edge left t s before) (p .all-left t (among-first t tail))
         (predecessor-other edge left t s before) (predecessor-edge edge left t s before)
 
     -- one more on the path
     pub path-grows : among (t ∷ tail) s ≡ false → Path left (s ∷ t ∷ tail)
-    path-grows f = (
-      (f, p .0),
-      λ u a.
-          ⊎-elim
-          (λ (e : s ≡ u). ap left (sym e) ∙ predecessor-left edge left t s before)
-          (λ (e : among (t ∷ tail) u ≡ true). p .1 u e)
-          (among-cases s (t ∷ tail) u a),
-      (link, p .2),
-    )
+    path-grows f =
+        record {
+          none-twice = (f, p .none-twice);
+          all-left = λ u a.
+              ⊎-elim
+              (λ (e : s ≡ u). ap left (sym e) ∙ predecessor-left edge left t s before)
+              (λ (e : among (t ∷ tail) u ≡ true). p .all-left u e)
+              (among-cases s (t ∷ tail) u a);
+          linked = (link, p .linked);
+        }
 
     -- s comes again
     pub path-closes : among (t ∷ tail) s ≡ true → Cycle edge left (up-to s (t ∷ tail))
@@ -195,38 +198,41 @@ module _ (edge : ℕ → ℕ → Bool) where
             let first = ap (λ (xs : List ℕ). getD xs 0 0) e in
             record {
               at-least-two = rw (length-append front (s ∷ [])) (omega arith);
-              none-twice = twice-split ring after (subst NoneTwice whole (p .0)) .0;
+              none-twice = twice-split ring after (subst NoneTwice whole (p .none-twice)) .first;
               members = λ u m.
                   let on-path = ap (λ (xs : List ℕ). among xs u) whole ∙ among-append ring after u in
-                  p .1 u (on-path ∙ or-hit-left (among ring u) (among after u) m);
+                  p .all-left u (on-path ∙ or-hit-left (among ring u) (among after u) m);
               round =
                   subst (Linked (edge-within edge left)) (sym (append-assoc front (s ∷ []) (b ∷ [])))
                   (linked-join (edge-within edge left) front s (b ∷ [])
-                  (linked-cut (edge-within edge left) front s after (subst (Linked (edge-within edge left)) e (p .2)) .0)
+                  (linked-cut (edge-within edge left) front s after (subst (Linked (edge-within edge left)) e (p .linked)) .0)
                   (ap (edge-within edge left s) (sym first) ∙ link, tt));
             }
 
   module _ (n : ℕ) (left : ℕ → Bool) where
     -- in a stuck rest the walk always finds a lowest predecessor
-    pub stuck-lowest : Below n left → Stuck edge left → (t : ℕ) → left t ≡ true
-        → (s : ℕ) × (lowest-predecessor n edge left t ≡ some s) × (predecessor edge left t s ≡ true)
+    pub record StepBack (t : ℕ) : Type 0 where
+      pub to : ℕ
+      pub is-lowest : lowest-predecessor n edge left t ≡ some to
+      pub precedes : predecessor edge left t to ≡ true
+
+    pub stuck-lowest : Below n left → Stuck edge left → (t : ℕ) → left t ≡ true → StepBack t
     stuck-lowest low stuck t l = go (lowest-predecessor n edge left t) refl (lowest-view edge n left t)
       where
-        go : (o : Option ℕ) → lowest-predecessor n edge left t ≡ o → First (predecessor edge left t) n o
-            → (s : ℕ) × (lowest-predecessor n edge left t ≡ some s) × (predecessor edge left t s ≡ true)
+        go : (o : Option ℕ) → lowest-predecessor n edge left t ≡ o → First (predecessor edge left t) n o → StepBack t
         go none e (first-none f) =
             let w = stuck .waits t l in
             absurd (clash (predecessor edge left t (w .0)) (w .1) (f (w .0) (low (w .0) (predecessor-left edge left t (w .0) (w .1)))))
-        go (some s) e (first-some m q f) = (s, e, q)
+        go (some s) e (first-some m q f) = record { to = s; is-lowest = e; precedes = q }
 
     -- the walk, from any path on: it cannot go on for longer than there are members
     pub walk-cycle : Below n left → Stuck edge left → (m t : ℕ) (tail : List ℕ) → Path left (t ∷ tail)
         → count-below n left < m + length (t ∷ tail) → Cycle edge left (walk (lowest-predecessor n edge left) m t (t ∷ tail))
     walk-cycle low stuck zero t tail p c =
-        absurd (omega (arith, c, pigeonhole n left (t ∷ tail) (p .0) (λ u a. (low u (p .1 u a), p .1 u a))))
+        absurd (omega (arith, c, pigeonhole n left (t ∷ tail) (p .none-twice) (λ u a. (low u (p .all-left u a), p .all-left u a))))
     walk-cycle low stuck (suc m) t tail p c =
-        let f = stuck-lowest low stuck t (p .1 t (among-first t tail)) in
-        go (f .0) (f .1) (f .2) (among (t ∷ tail) (f .0)) refl (λ s q d. walk-cycle low stuck m s (t ∷ tail) q d)
+        let f = stuck-lowest low stuck t (p .all-left t (among-first t tail)) in
+        go (f .to) (f .is-lowest) (f .precedes) (among (t ∷ tail) (f .to)) refl (λ s q d. walk-cycle low stuck m s (t ∷ tail) q d)
       where
         back : ℕ → Option ℕ
         back = lowest-predecessor n edge left

@@ -1,5 +1,5 @@
 -- What the rule gives, over any edges and any set of numbers below n: the smallest line, or a cycle where there is no line. So a line
--- exists exactly where there is no cycle, and exactly where the rule gives one. Assumes nothing.
+-- exists exactly where there is no cycle, and exactly where the rule gives one.
 use Prim.Native.Nat.{ℕ, _≤_}
 use native.Mathlib.Omega.{arith}
 use mathlib.Core.Path.{_≡_, refl, sym, _∙_, ap, subst}
@@ -44,7 +44,7 @@ module _ (n : ℕ) (edge : ℕ → ℕ → Bool) where
 
     -- THEOREM: the walk comes round within as many steps as there are members
     pub walk-comes-round : (m : ℕ) → count-below n left ≤ m → Cycle edge left (walk (lowest-predecessor n edge left) m t (t ∷ []))
-    walk-comes-round m c = walk-cycle edge n left low stuck m t [] ((among-nil t, tt), alone, tt) (omega (arith, c))
+    walk-comes-round m c = walk-cycle edge n left low stuck m t [] record { none-twice = (among-nil t, tt); all-left = alone; linked = tt } (omega (arith, c))
       where
         alone : (u : ℕ) → among (t ∷ []) u ≡ true → left u ≡ true
         alone u a =

@@ -1,5 +1,5 @@
 -- The cycle is cut out of the path, from its start to where the one stands who came again, and is written in two parts, from its lowest
--- number on. Assumes nothing.
+-- number on.
 use Prim.Native.Nat.{ℕ, suc, _+_, _-_, _<_, _≤_}
 use native.Mathlib.Omega.{arith}
 use mathlib.Core.Path.{_≡_, sym, _∙_, ap}

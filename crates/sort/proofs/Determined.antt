@@ -1,9 +1,9 @@
 -- The promise of the sort determines its answer and the buffer that was lent; and what is promised means, of every table and every set,
--- the smallest line or a cycle where there is none. Assumes nothing.
+-- the smallest line or a cycle where there is none.
 use Prim.Native.Nat.{ℕ, _<_, _^_}
 use native.Mathlib.Omega.{arith}
 use native.Mathlib.Nat.{zero-add}
-use mathlib.Core.Path.{_≡_, refl, sym, _∙_, ap}
+use mathlib.Core.Path.{_≡_, sym, _∙_, ap}
 use mathlib.Core.List.{List, _++_}
 use lib.ListN.{length, drop}
 use lib.Seq.{sets, sets-eq}

@@ -1,5 +1,5 @@
 -- Laws of parts of a buffer: written one by one they stand in the other buffer as a list does, and a part's place of a number, or of its
--- lowest, is where it is found first. Assumes nothing.
+-- lowest, is where it is found first.
 use Prim.Native.Nat.{ℕ, suc, _+_, _-_, _<_, _≤_}
 use native.Mathlib.Omega.{arith}
 use native.Mathlib.Numerals.{add-one}
@@ -70,27 +70,52 @@ module _ (buffer : List ℕ) (at t : ℕ) (there : among (drop at buffer) t ≡ 
           (place-before t (drop at buffer) (k - at) (omega (arith, l, m, e))
           (getD-drop at buffer (k - at) 0 ∙ ap (λ (x : ℕ). getD buffer x 0) (omega (arith, l)) ∙ q))
 
--- the place of the lowest of a part
-pub part-lowest : (buffer : List ℕ) (at end low : ℕ) → end ≤ length buffer → at ≤ low → low < end
-    → ((j : ℕ) → at ≤ j → j < end → getD buffer low 0 ≤ getD buffer j 0)
-    → ((j : ℕ) → at ≤ j → j < low → getD buffer low 0 < getD buffer j 0)
+-- of the part from `at` to k the lowest stands at `low`, and before it nothing as low
+pub record LowestAt (buffer : List ℕ) (at low k : ℕ) : Type 0 where
+  pub from : at ≤ low
+  pub none-lower : (j : ℕ) → at ≤ j → j < k → getD buffer low 0 ≤ getD buffer j 0
+  pub none-before : (j : ℕ) → at ≤ j → j < low → getD buffer low 0 < getD buffer j 0
+
+pub lowest-start : (buffer : List ℕ) (at : ℕ) → LowestAt buffer at at at
+lowest-start buffer at =
+    record { from = omega arith; none-lower = λ j a b. absurd (omega (arith, a, b)); none-before = λ j a b. absurd (omega (arith, a, b)) }
+
+-- one more looked at: it is the lowest now, or the lowest stays
+module _ (buffer : List ℕ) (at low k : ℕ) (w : LowestAt buffer at low k) where
+  pub lowest-new : at ≤ k → getD buffer k 0 < getD buffer low 0 → LowestAt buffer at k (k + 1)
+  lowest-new a l =
+      record { from = a; none-lower = λ j b m. go j b m (ℕ-discrete j k); none-before = λ j b m. omega (arith, l, w .none-lower j b m) }
+    where
+      go : (j : ℕ) → at ≤ j → j < k + 1 → Dec (j ≡ k) → getD buffer k 0 ≤ getD buffer j 0
+      go j b m (yes q) = rw q (omega arith)
+      go j b m (no q) = omega (arith, l, w .none-lower j b (omega (arith, m, q)))
+
+  pub lowest-stays : getD buffer low 0 ≤ getD buffer k 0 → LowestAt buffer at low (k + 1)
+  lowest-stays l = record { from = w .from; none-lower = λ j b m. go j b m (ℕ-discrete j k); none-before = w .none-before }
+    where
+      go : (j : ℕ) → at ≤ j → j < k + 1 → Dec (j ≡ k) → getD buffer low 0 ≤ getD buffer j 0
+      go j b m (yes q) = rw q l
+      go j b m (no q) = w .none-lower j b (omega (arith, m, q))
+
+-- the whole part looked at: this is the place of its lowest
+pub part-lowest : (buffer : List ℕ) (at end low : ℕ) → end ≤ length buffer → low < end → LowestAt buffer at low end
     → low ≡ at + place-of (lowest-member (slice at end buffer)) (slice at end buffer)
-part-lowest buffer at end low fits a l f g = omega (arith, a, lowest-place-is (slice at end buffer) (low - at) inside all before)
+part-lowest buffer at end low fits l w = omega (arith, w .from, lowest-place-is (slice at end buffer) (low - at) inside all before)
   where
     long : length (slice at end buffer) ≡ end - at
     long = length-slice at end buffer fits
 
     inside : low - at < length (slice at end buffer)
-    inside = rw long (omega (arith, a, l))
+    inside = rw long (omega (arith, w .from, l))
 
     entry : (j : ℕ) → j < end - at → getD (slice at end buffer) j 0 ≡ getD buffer (at + j) 0
     entry j m = slice-entry buffer at end j (omega (arith, m))
 
     own : getD (slice at end buffer) (low - at) 0 ≡ getD buffer low 0
-    own = entry (low - at) (omega (arith, a, l)) ∙ ap (λ (x : ℕ). getD buffer x 0) (omega (arith, a))
+    own = entry (low - at) (omega (arith, w .from, l)) ∙ ap (λ (x : ℕ). getD buffer x 0) (omega (arith, w .from))
 
     all : (j : ℕ) → j < length (slice at end buffer) → getD (slice at end buffer) (low - at) 0 ≤ getD (slice at end buffer) j 0
-    all j m = let n : j < end - at = omega (arith, m, long) in rw (own, entry j n) (f (at + j) (omega arith) (omega (arith, n)))
+    all j m = let n : j < end - at = omega (arith, m, long) in rw (own, entry j n) (w .none-lower (at + j) (omega arith) (omega (arith, n)))
 
     before : (j : ℕ) → j < low - at → getD (slice at end buffer) (low - at) 0 < getD (slice at end buffer) j 0
-    before j m = rw (own, entry j (omega (arith, m, l))) (g (at + j) (omega arith) (omega (arith, m)))
+    before j m = rw (own, entry j (omega (arith, m, l))) (w .none-before (at + j) (omega arith) (omega (arith, m)))

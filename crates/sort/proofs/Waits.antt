@@ -1,5 +1,5 @@
 -- The search for the ready one keeps, for each transaction, a predecessor that is left, and none below it is. So one that was tried in
--- vain waits for the lowest of its predecessors; and one whose search comes to the end of the numbers is ready. Assumes nothing.
+-- vain waits for the lowest of its predecessors; and one whose search comes to the end of the numbers is ready.
 use Prim.Native.Nat.{ℕ, _+_, _<_}
 use native.Mathlib.Omega.{arith}
 use native.Mathlib.Decide.{ℕ-discrete}

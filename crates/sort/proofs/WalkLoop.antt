@@ -1,5 +1,5 @@
 -- While the sort walks back, the path at the end of the buffer is the rule's path, and what is still to come is the rule's walk. No
--- transaction is on it twice, so it never outgrows the buffer. Assumes nothing.
+-- transaction is on it twice, so it never outgrows the buffer.
 use Prim.Native.Nat.{ℕ, suc, _-_, _<_, _≤_}
 use native.Mathlib.Omega.{arith}
 use mathlib.Core.Path.{_≡_, refl, sym, _∙_, ap, subst}

@@ -1,5 +1,4 @@
 -- `sort::sort` meets its contract: the laws in Endings say what the rule gives where none is left, and where one is.
--- Assumes nothing.
 use borrow.Author.Needs.{needs}
 use native.Mathlib.Omega.{arith}
 use mathlib.Core.Path.{_≡_, sym, _∙_, ap, subst}
@@ -7,7 +6,7 @@ use mathlib.Core.Bool.{Bool}
 use mathlib.Core.List.{List}
 use Prim.Native.Nat.{ℕ, _<_, _≤_}
 use lib.ListN.{length, replicate, length-replicate}
-use lib.Seq.{sets, slice, length-sets}
+use lib.Seq.{sets, length-sets}
 use denote.Ref.{now}
 use Rattle.sets.specs.Bits.{numbers, has, in-row}
 use Rattle.sets.proofs.Tables.{empty-entry}

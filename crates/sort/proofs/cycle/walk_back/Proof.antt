@@ -1,4 +1,4 @@
--- `sort::cycle::walk_back` meets its contract. The invariant: the path at the end of the buffer is the rule's. Assumes nothing.
+-- `sort::cycle::walk_back` meets its contract. The invariant: the path at the end of the buffer is the rule's.
 use native.Mathlib.Omega.{arith}
 use mathlib.Core.Path.{_≡_, sym, _∙_}
 use mathlib.Core.Bool.{true, false}

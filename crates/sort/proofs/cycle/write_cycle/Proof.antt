@@ -1,4 +1,4 @@
--- `sort::cycle::write_cycle` meets its contract: the laws in CycleWritten say what the two parts written are. Assumes nothing.
+-- `sort::cycle::write_cycle` meets its contract: the laws in CycleWritten say what the two parts written are.
 use borrow.Author.Needs.{needs}
 use native.Mathlib.Omega.{arith}
 use mathlib.Core.Path.{_∙_, ap}

@@ -12,7 +12,6 @@ use Rattle.sets.specs.Bits.{numbers, has, in-row}
 use Rattle.lines.specs.Rule.{next}
 use Rattle.lines.proofs.Chosen.{next-is}
 use Rattle.sort.specs.Numbers.{ready-says}
-use Rattle.sort.specs.Promises.{FindsReady}
 use Rattle.sort.proofs.Waits.{taken}
 use Rattle.sort.proofs.PlacingLoop.{Placing, place-start, place-room, placing-on, placing-done}
 use Rattle.sort.proofs.line.place_all.Statement.{statement}
