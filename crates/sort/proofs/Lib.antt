@@ -3,6 +3,5 @@ pub mod SearchLoop
 pub mod Parts
 pub mod PlacingLoop
 pub mod WalkLoop
-pub mod LineWritten
 pub mod CycleWritten
 pub mod Determined

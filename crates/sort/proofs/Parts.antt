@@ -1,14 +1,14 @@
--- Laws of parts of a buffer: written one by one they stand in the other buffer as a list does, and a part's place of a number, or of its
--- lowest, is where it is found first.
+-- Laws of parts of a buffer: written one by one they stand in the other buffer as a list does, and the place of a number in a part, or of
+-- its lowest, is where it is found first.
 use Prim.Native.Nat.{ℕ, suc, _+_, _-_, _<_, _≤_}
 use native.Mathlib.Omega.{arith}
 use native.Mathlib.Numerals.{add-one}
-use mathlib.Core.Path.{_≡_, sym, _∙_, ap}
+use mathlib.Core.Path.{_≡_, refl, sym, _∙_, ap, ap₂}
 use mathlib.Core.Bool.{true}
 use mathlib.Core.List.{List, [], _∷_, _++_}
 use native.Mathlib.Decide.{ℕ-discrete}
 use lib.ListN.{length, take, drop, getD, set, length-drop}
-use lib.Seq.{sets, slice, length-slice, slice-empty, take-suc, getD-take, getD-drop, drop-append-le, length-take-le}
+use lib.Seq.{sets, slice, sets-eq, take-at, length-slice, slice-empty, take-suc, getD-take, getD-drop, drop-append-le, length-take-le}
 use Rattle.lines.specs.Rule.{among, place-of, lowest-member}
 use Rattle.lines.proofs.Lists.{place-low, place-entry, place-before}
 use Rattle.lines.proofs.Rings.{lowest-place-is}
@@ -38,6 +38,16 @@ part-more from to start at k l m =
     ∙ ap (sets to at) (slice-more from start k l m)
     ∙ sets-append (slice start k from) (getD from k 0 ∷ []) to at
     ∙ ap (λ (e : ℕ). set (sets to at (slice start k from)) (at + e) (getD from k 0)) (length-slice start k from (omega (arith, m))))
+
+-- what was written to the front of a buffer, and then from there to another, stands in the other
+module _ (xs blank : List ℕ) (fits : length xs ≤ length blank) where
+  front-is : slice 0 (length xs) (sets blank 0 xs) ≡ xs
+  front-is = ap (take (length xs)) (sets-eq xs blank 0 (omega (arith, fits))) ∙ take-at xs (drop (0 + length xs) blank) (length xs) refl
+
+  pub front-written : (to : List ℕ) (k : ℕ) {buffer written : List ℕ} → buffer ≡ sets blank 0 xs → written ≡ sets to 0 (slice 0 k buffer)
+      → k ≡ length xs → written ≡ sets to 0 xs
+  front-written to k is-placed is-written is-long =
+      is-written ∙ ap₂ (λ (n : ℕ) (ys : List ℕ). sets to 0 (slice 0 n ys)) is-long is-placed ∙ ap (sets to 0) front-is
 
 -- entries of a part
 pub slice-entry : (from : List ℕ) (start end j : ℕ) → start + j < end → getD (slice start end from) j 0 ≡ getD from (start + j) 0

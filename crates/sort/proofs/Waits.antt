@@ -1,5 +1,5 @@
--- The search for the ready one keeps, for each transaction, a predecessor that is left, and none below it is. So one that was tried in
--- vain waits for the lowest of its predecessors; and one whose search comes to the end of the numbers is ready.
+-- Laws of the predecessors that are kept, in their buffer: at first none is known, one that is found is stored, and those left become
+-- fewer. And what the sets' own functions find and take out, as the rule has it.
 use Prim.Native.Nat.{ℕ, _+_, _<_}
 use native.Mathlib.Omega.{arith}
 use native.Mathlib.Decide.{ℕ-discrete}

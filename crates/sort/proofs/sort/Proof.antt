@@ -15,7 +15,8 @@ use Rattle.lines.specs.Rule.{LineOrCycle, line, cycle, length-of, members-of, p
 use Rattle.sort.specs.WaitsFor.{back}
 use Rattle.sort.proofs.Waits.{found-from, kept-start, searched-start}
 use Rattle.lines.proofs.Endings.{ends-in-line, ends-in-cycle}
-use Rattle.sort.proofs.LineWritten.{line-fits, front-written}
+use Rattle.lines.proofs.Placing.{placed-fits}
+use Rattle.sort.proofs.Parts.{front-written}
 use Rattle.sort.proofs.sort.Statement.{statement}
 use Rattle.sort.proofs.sort.Tie as tie
 
@@ -66,8 +67,11 @@ module _ (c : tie.After-member-from) where
   counted : c .before .place-all .result .count ≡ length (placed numbers edge numbers set)
   counted = c .before .place-all .ensures .counted
 
+  line-low : length (placed numbers edge numbers set) ≤ numbers
+  line-low = placed-fits edge numbers numbers set
+
   fits : c .before .place-all .result .count ≤ numbers
-  fits = rw counted (line-fits edge set)
+  fits = rw counted line-low
 
 write-part-requires : tie.Need-write-part-requires
 write-part-requires c κs =
@@ -84,7 +88,7 @@ returns c =
     record {
       says = ap line (omega (arith, counted m)) ∙ sym (ap length-of is-line);
       leaves =
-          front-written (edge m) (set m) (blank m) (length-replicate {A = ℕ} 64 0) to (m .before .place-all .result .count)
+          front-written (placed numbers (edge m) numbers (set m)) (blank m) (omega (arith, line-low m, length-replicate {A = ℕ} 64 0)) to (m .before .place-all .result .count)
           (is-placed m) (c .write-part .ensures) (omega (arith, counted m))
           ∙ sym (ap (λ (o : LineOrCycle (List ℕ)). sets to 0 (members-of o)) is-line);
     }

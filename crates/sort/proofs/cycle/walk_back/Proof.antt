@@ -6,20 +6,20 @@ use mathlib.Core.List.{List}
 use Prim.Native.Nat.{ℕ, _≤_}
 use denote.Ref.{now}
 use borrow.Author.Tests.{not-true, not-false}
-use Rattle.sets.specs.Bits.{has}
+use Rattle.sets.specs.Bits.{numbers, has}
 use Rattle.sort.specs.WaitsFor.{Kept}
 use Rattle.sort.proofs.WalkLoop.{OnPath, path-start, path-room, path-step, comes-again, walk-done}
 use Rattle.sort.proofs.cycle.walk_back.Statement.{statement}
 use Rattle.sort.proofs.cycle.walk_back.Tie as tie
 
 abbrev Inv-loop : tie.InvT-loop
-Inv-loop waits first path₀ at₀ seen₀ again₀ path at seen again = OnPath waits first path at seen again
+Inv-loop waits first path₀ at₀ seen₀ again₀ path at seen again = OnPath numbers waits first path at seen again
 
 abbrev μ-loop : tie.MeasureT-loop
 μ-loop waits first path₀ at₀ seen₀ again₀ path at seen again = at
 
 loop-holds : tie.Need-loop-holds Inv-loop μ-loop
-loop-holds c = let a = c .args in path-start (now (a .waits)) (a .first) (now (a .path)) (c .pre .1 .1) (c .pre .1 .0)
+loop-holds c = let a = c .args in path-start numbers (now (a .waits)) (a .first) (now (a .path)) (c .pre .1 .1) (c .pre .1 .0)
 
 has-member-requires : tie.Need-has-member-requires Inv-loop μ-loop
 has-member-requires c κs = c .loop .inv .again-low
@@ -39,7 +39,7 @@ module _ (c : tie.Then1 Inv-loop μ-loop) where
   new = sym (c .before .has-member .ensures) ∙ not-true (c .before .has-member .result) (c .if1 .taken)
 
   room : 1 ≤ e .loop .at
-  room = path-room waits (e .before .args .first) (e .loop .path) (e .loop .at) (e .loop .seen) (e .loop .again) (e .loop .inv) new
+  room = path-room numbers waits (e .before .args .first) (e .loop .path) (e .loop .at) (e .loop .seen) (e .loop .again) (e .loop .inv) new
 
 sub-at : tie.Need-sub-at Inv-loop μ-loop
 sub-at c = room c
@@ -66,7 +66,7 @@ loop-again : tie.Need-loop-again Inv-loop μ-loop
 loop-again c =
     let t = c .before .before in
     let l = e t .loop in
-    path-step (waits t) (e t .before .args .first) (l .path) (l .at) (l .seen) (l .again) (l .inv) (new t) (c .before .with-member .result)
+    path-step numbers (waits t) (e t .before .args .first) (l .path) (l .at) (l .seen) (l .again) (l .inv) (new t) (c .before .with-member .result)
     (c .before .with-member .ensures) (kept t .low (l .again))
 
 cast-t14 : tie.Need-cast-t14 Inv-loop μ-loop
@@ -80,8 +80,8 @@ returns c =
     sym (c .before .has-member .ensures) ∙ not-false (c .before .has-member .result) (c .if1 .left) in
     record {
       whole = l .inv .whole;
-      comes-again = comes-again (now (a .waits)) (a .first) (l .path) (l .at) (l .seen) (l .again) (l .inv) old;
-      is-walk = walk-done (now (a .waits)) (a .first) (l .path) (l .at) (l .seen) (l .again) (l .inv) old;
+      comes-again = comes-again numbers (now (a .waits)) (a .first) (l .path) (l .at) (l .seen) (l .again) (l .inv) old;
+      is-walk = walk-done numbers (now (a .waits)) (a .first) (l .path) (l .at) (l .seen) (l .again) (l .inv) old;
     }
 
 pub walk-back-spec : {M : Type 1} → statement M
