@@ -20,13 +20,18 @@ use Rattle.sort.proofs.Parts.{front-written}
 use Rattle.sort.proofs.sort.Statement.{statement}
 use Rattle.sort.proofs.sort.Tie as tie
 
+-- the buffers of the sort, before anything is written to them
+abbrev blank : List ℕ
+blank = replicate {A = ℕ} 64 0
+
+blank-whole : length blank ≡ numbers
+blank-whole = length-replicate {A = ℕ} 64 0
+
+-- at first no predecessor is known
 place-all-requires : tie.Need-place-all-requires
 place-all-requires c κs =
     let a = c .before .before .args in
-    let blank = replicate {A = ℕ} 64 0 in (
-      kept-start blank (empty-entry 64) (length-replicate {A = ℕ} 64 0),
-      searched-start blank (empty-entry 64) (in-row (now (a .table))) (has (a .set)),
-    )
+    (kept-start blank (empty-entry 64) blank-whole, searched-start blank (empty-entry 64) (in-row (now (a .table))) (has (a .set)))
 
 member-from-requires : tie.Need-member-from-requires
 member-from-requires c κs = search needs
@@ -39,6 +44,11 @@ module _ (c : tie.After-member-from) where
   abbrev set : ℕ → Bool
   set = has (c .before .before .before .before .args .set)
 
+  -- the buffer lent
+  abbrev members : List ℕ
+  members = now (c .before .before .before .before .args .members)
+
+  -- those left, and the lowest of them
   abbrev left : ℕ → Bool
   left = has (c .before .place-all .result .left)
 
@@ -51,28 +61,32 @@ module _ (c : tie.After-member-from) where
   same-rest : (t : ℕ) → left t ≡ rest numbers edge numbers set t
   same-rest = c .before .place-all .ensures .same-rest
 
-  -- the buffer that the line was placed in
-  abbrev blank : List ℕ
-  blank = replicate {A = ℕ} 64 0
+  -- the line, the buffer that it was placed in, and how many were placed
+  abbrev line-made : List ℕ
+  line-made = placed numbers edge numbers set
 
   abbrev buffer : List ℕ
   buffer = c .before .place-all .last .1 .1 .1 .0
 
-  is-placed : buffer ≡ sets blank 0 (placed numbers edge numbers set)
+  abbrev count : ℕ
+  count = c .before .place-all .result .count
+
+  is-placed : buffer ≡ sets blank 0 line-made
   is-placed = c .before .place-all .ensures .written
 
   buffer-whole : length buffer ≡ numbers
-  buffer-whole = ap length is-placed ∙ length-sets blank 0 (placed numbers edge numbers set) ∙ length-replicate {A = ℕ} 64 0
+  buffer-whole = ap length is-placed ∙ length-sets blank 0 line-made ∙ blank-whole
 
-  counted : c .before .place-all .result .count ≡ length (placed numbers edge numbers set)
+  counted : count ≡ length line-made
   counted = c .before .place-all .ensures .counted
 
-  line-low : length (placed numbers edge numbers set) ≤ numbers
+  line-low : length line-made ≤ numbers
   line-low = placed-fits edge numbers numbers set
 
-  fits : c .before .place-all .result .count ≤ numbers
+  fits : count ≤ numbers
   fits = rw counted line-low
 
+-- none is left: the line is written
 write-part-requires : tie.Need-write-part-requires
 write-part-requires c κs =
     let m = c .before .before .before in
@@ -80,37 +94,37 @@ write-part-requires c κs =
 
 returns : tie.Need-returns
 returns c =
-    let t = c .before .before .before in
-    let m = t .before in
-    let to = now (m .before .before .before .before .args .members) in
-    let none-left = subst (FirstFrom (left m) 0 numbers) (t .if1 .taken) (first-left m) in
-    let is-line = ends-in-line numbers (edge m) (set m) (left m) (same-rest m) none-left in
+    let none-left = c .before .before .before in
+    let m = none-left .before in
+    let at-end = subst (FirstFrom (left m) 0 numbers) (none-left .if1 .taken) (first-left m) in
+    let is-line = ends-in-line numbers (edge m) (set m) (left m) (same-rest m) at-end in
     record {
       says = ap line (omega (arith, counted m)) ∙ sym (ap length-of is-line);
       leaves =
-          front-written (placed numbers (edge m) numbers (set m)) (blank m) (omega (arith, line-low m, length-replicate {A = ℕ} 64 0)) to (m .before .place-all .result .count)
-          (is-placed m) (c .write-part .ensures) (omega (arith, counted m))
-          ∙ sym (ap (λ (o : LineOrCycle (List ℕ)). sets to 0 (members-of o)) is-line);
+          front-written (line-made m) blank (omega (arith, line-low m, blank-whole)) (members m) (count m) (is-placed m)
+          (c .write-part .ensures) (omega (arith, counted m))
+          ∙ sym (ap (λ (o : LineOrCycle (List ℕ)). sets (members m) 0 (members-of o)) is-line);
     }
 
--- where one is left
-low : (c : tie.Else1) → first (c .before) < numbers
-low c = omega (arith, first-left (c .before) .within, c .if1 .left)
+-- one is left: the cycle is written that is found from it
+first-low : (c : tie.Else1) → first (c .before) < numbers
+first-low c = omega (arith, first-left (c .before) .within, c .if1 .left)
 
 write-cycle-requires : tie.Need-write-cycle-requires
-write-cycle-requires c κs = let e = c .before .before in (e .before .before .place-all .ensures .kept, low e)
+write-cycle-requires c κs = let one-left = c .before .before in (one-left .before .before .place-all .ensures .kept, first-low one-left)
 
 returns-2 : tie.Need-returns-2
 returns-2 c =
-    let e = c .before .before .before in
-    let m = e .before in
-    let to = now (m .before .before .before .before .args .members) in
+    let one-left = c .before .before .before in
+    let m = one-left .before in
     let waits = m .before .place-all .last .1 .1 .0 in
     let blocked = m .before .place-all .ensures .blocked in
-    let is-cycle = ends-in-cycle numbers (edge m) (set m) (left m) (same-rest m) (back waits) blocked (first m) (first-left m) (low e) in
+    let low = first-low one-left in
+    let is-cycle = ends-in-cycle numbers (edge m) (set m) (left m) (same-rest m) (back waits) blocked (first m) (first-left m) low in
+    let (is-long, is-written) = c .write-cycle .ensures in
     record {
-      says = ap cycle (c .write-cycle .ensures .0) ∙ sym (ap length-of is-cycle);
-      leaves = c .write-cycle .ensures .1 ∙ sym (ap (λ (o : LineOrCycle (List ℕ)). sets to 0 (members-of o)) is-cycle);
+      says = ap cycle is-long ∙ sym (ap length-of is-cycle);
+      leaves = is-written ∙ sym (ap (λ (o : LineOrCycle (List ℕ)). sets (members m) 0 (members-of o)) is-cycle);
     }
 
 pub sort-spec : {M : Type 1} → statement M
