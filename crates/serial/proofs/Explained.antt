@@ -15,7 +15,7 @@ use Rattle.lines.specs.Lines.{Below, SmallestLine, Means}
 use Rattle.lines.proofs.Placing.{line-length}
 use Rattle.lines.proofs.Sorts.{sorted-means, line-where-given}
 use Rattle.serial.specs.Serial.{SerialLine}
-use Rattle.serial.specs.Explains.{Explains, ExplainsByLine}
+use Rattle.serial.specs.Explains.{Explains, ExplainsByLine, ExplainsByCycle}
 use Rattle.serial.proofs.Graphs.{cycle-goes-round, line-keeps, line-no-cycle}
 use Rattle.serial.proofs.SerialLines.{serial-exactly}
 use Rattle.serial.proofs.LastWrites.{last-writes}
@@ -54,6 +54,13 @@ module _ (h : History) (sound : Sound h) (n : ℕ) (low : Below n (h .takes-part
   pub rule-explains : Explains h n given
   rule-explains = explains given (sorted-means n (edge h) (h .takes-part) low)
 
+  -- .. by its case
+  pub by-line : (xs : List ℕ) → given ≡ line xs → ExplainsByLine h n xs
+  by-line xs q = subst (Explains h n) q rule-explains
+
+  pub by-cycle : (xs : List ℕ) → given ≡ cycle xs → ExplainsByCycle h n xs
+  by-cycle xs q = subst (Explains h n) q rule-explains
+
   -- THEOREM: a line is given "exactly if some line .. exists" that is serial,
   pub line-exactly : ((xs : List ℕ) × SerialLine h xs) ↔ ((xs : List ℕ) × (given ≡ line xs))
   line-exactly = (ahead, back)
@@ -62,4 +69,26 @@ module _ (h : History) (sound : Sound h) (n : ℕ) (low : Below n (h .takes-part
       ahead (xs, s) = line-where-given n (edge h) (h .takes-part) low .0 (xs, serial-exactly h sound xs .0 s)
 
       back : (xs : List ℕ) × (given ≡ line xs) → (xs : List ℕ) × SerialLine h xs
-      back (xs, q) = let e : ExplainsByLine h n xs = subst (Explains h n) q rule-explains in (xs, e .smallest .is-serial)
+      back (xs, q) = (xs, by-line xs q .smallest .is-serial)
+
+  -- THEOREM: a cycle where there is none,
+  pub cycle-exactly : ((xs : List ℕ) → SerialLine h xs → ⊥) ↔ ((xs : List ℕ) × (given ≡ cycle xs))
+  cycle-exactly = (λ f. ahead f given refl, back)
+    where
+      ahead : ((xs : List ℕ) → SerialLine h xs → ⊥) → (o : LineOrCycle (List ℕ)) → given ≡ o → (xs : List ℕ) × (given ≡ cycle xs)
+      ahead f (line xs) q = absurd (f xs (by-line xs q .smallest .is-serial))
+      ahead f (cycle xs) q = (xs, q)
+
+      back : (xs : List ℕ) × (given ≡ cycle xs) → (ys : List ℕ) → SerialLine h ys → ⊥
+      back (xs, q) = by-cycle xs q .no-line
+
+  -- THEOREM: and a line exactly where the graph has no cycle
+  pub acyclic-exactly : ((xs : List ℕ) × (given ≡ line xs)) ↔ Acyclic (edge h)
+  acyclic-exactly = (ahead, λ f. back f given refl)
+    where
+      ahead : (xs : List ℕ) × (given ≡ line xs) → Acyclic (edge h)
+      ahead (xs, q) = by-line xs q .acyclic
+
+      back : Acyclic (edge h) → (o : LineOrCycle (List ℕ)) → given ≡ o → (xs : List ℕ) × (given ≡ line xs)
+      back f (line xs) q = (xs, q)
+      back f (cycle xs) q = absurd (by-cycle xs q .not-acyclic f)

@@ -1,12 +1,12 @@
 -- The lines in which conflicts keep log order are exactly the lines of SG; so where there is one, SG has no cycle.
-use Prim.Native.Nat.{ℕ, _<_}
+use Prim.Native.Nat.{ℕ}
 use native.Mathlib.Omega.{arith}
-use mathlib.Core.Path.{_≡_, sym, _∙_, subst, subst₂}
+use mathlib.Core.Path.{_≡_, sym, _∙_, subst₂}
 use mathlib.Core.Bool.{true}
 use mathlib.Core.List.{List}
 use mathlib.Core.Logic.{_↔_}
 use Rattle.sets.specs.Paths.{Acyclic}
-use Rattle.histories.specs.History.{History, Counts}
+use Rattle.histories.specs.History.{History}
 use Rattle.histories.specs.Reasons.{conflict}
 use Rattle.histories.specs.Chapter.{serialization-edge}
 use Rattle.histories.proofs.Reasons.{conflict-found}
@@ -15,7 +15,7 @@ use Rattle.histories.proofs.Chapter.{conflict-in-SG}
 use Rattle.lines.specs.Lines.{stands-before, Line}
 use Rattle.lines.proofs.Chosen.{within-edge}
 use Rattle.serial.specs.Serial.{InLogOrder}
-use Rattle.serial.proofs.Histories.{SG-two, SG-conflict}
+use Rattle.serial.proofs.Histories.{counts-of, SG-two, SG-conflict}
 use Rattle.serial.proofs.Graphs.{line-keeps, line-no-cycle}
 
 module _ (h : History) (line : List ℕ) where
@@ -25,11 +25,8 @@ module _ (h : History) (line : List ℕ) where
       let c = conflict-found h i j b in
       subst₂ (λ (t u : ℕ). stands-before line t u ≡ true) (c .from) (c .to)
       (s .keeps-conflicts (c .first) (c .second) (c .in-order)
-      (counts (c .first) i (omega (arith, c .in-order, c .there)) (c .from) (two .from-part))
-      (counts (c .second) j (c .there) (c .to) (two .to-part)) (c .conflict-between) (λ q. two .other (sym (c .from) ∙ q ∙ c .to)))
-    where
-      counts : (e t : ℕ) → e < h .size → h .transaction e ≡ t → h .takes-part t ≡ true → Counts h e
-      counts e t l q p = record { there = l; part = subst (λ (u : ℕ). h .takes-part u ≡ true) (sym q) p }
+      (counts-of h (c .first) i (omega (arith, c .in-order, c .there)) (c .from) (two .from-part))
+      (counts-of h (c .second) j (c .there) (c .to) (two .to-part)) (c .conflict-between) (λ q. two .other (sym (c .from) ∙ q ∙ c .to)))
 
   -- THEOREM: lines in log order are lines of SG
   pub log-order-exactly : InLogOrder h line ↔ Line (serialization-edge h) (h .takes-part) line

@@ -1,15 +1,15 @@
 -- When a read has the same writer as in a run on a single copy: in a line in log order, exactly where no other writer of the item stands
 -- between its source and the reader. So a graph without the write order too has only that to show.
-use Prim.Native.Nat.{ℕ, _<_}
+use Prim.Native.Nat.{ℕ}
 use native.Mathlib.Omega.{arith}
 use native.Mathlib.Decide.{ℕ-discrete}
-use mathlib.Core.Path.{_≡_, refl, sym, _∙_, ap, subst}
+use mathlib.Core.Path.{_≡_, refl, sym, _∙_, subst}
 use mathlib.Core.Bool.{true, false}
 use mathlib.Core.List.{List}
 use mathlib.Core.Option.{some}
 use mathlib.Core.Logic.{_⊎_, inl, inr, ⊎-elim, _↔_}
 use Rattle.sets.proofs.Truth.{clash, either}
-use Rattle.histories.specs.History.{History, Counts}
+use Rattle.histories.specs.History.{History}
 use Rattle.histories.specs.Earlier.{wrote-item, writes}
 use Rattle.histories.specs.Source.{source}
 use Rattle.histories.specs.Chapter.{ReadsFrom, Writer}
@@ -18,11 +18,10 @@ use Rattle.histories.proofs.OfTransactions.{wrote-item-hit}
 use Rattle.histories.proofs.Sources.{shows-found, sourced, source-record-of}
 use Rattle.histories.proofs.Conflicts.{read-uses, write-uses, write-then-use}
 use Rattle.histories.proofs.Chapter.{source-writes, lemma-8-1}
-use Rattle.lines.specs.Rule.{among}
 use Rattle.lines.specs.Lines.{stands-before}
 use Rattle.serial.specs.Run.{before, last-writer, run-writer}
-use Rattle.serial.specs.Serial.{InLogOrder}
-use Rattle.serial.proofs.Histories.{source-reads}
+use Rattle.serial.specs.Serial.{InLogOrder, OneCopyLine}
+use Rattle.serial.proofs.Histories.{counts-of, source-reads, reads-from}
 use Rattle.serial.proofs.Runs.{stands-there, LastBefore, last-before-found, last-before-is}
 use Rattle.serial.proofs.LogOrders.{log-order-no-cycle}
 
@@ -69,10 +68,7 @@ module _ (h : History) (line : List ℕ) (k : ℕ) where
         let e = found .at in
         let v = sourced h k e (found .found) in
         let w = shows-found h k e (v .shown) in
-        let counts : Counts h e = record {
-          there = omega (arith, v .earlier, r .counts .there);
-          part = subst (λ (t : ℕ). h .takes-part t ≡ true) (sym (found .own)) (source-writer .part);
-        } in
+        let counts = counts-of h e s (omega (arith, v .earlier, r .counts .there)) (found .own) (source-writer .part) in
         let one-item = sound .one-item e k (counts .there) (r .counts .there) (write-uses h e (w .is-one)) (read-uses h k reads) (w .of-copy) in
         subst (λ (t : ℕ). stands-before line t reader ≡ true) (found .own)
         (o .keeps-conflicts e k (v .earlier) counts (r .counts) (write-then-use h e k (w .is-one) (read-uses h k reads) (sym (w .of-copy)))
@@ -102,7 +98,7 @@ module _ (h : History) (line : List ℕ) (k : ℕ) where
             r .from ∙ sym (last-before-is (λ u. writes h u title) line (o .each-once) reader s last) ∙ sym (run-other b)
 
     -- .. and back: the run's writer is the last one before the reader, or the reader itself
-    pub kept-none-between : source h k ≡ run-writer h line k → NoneBetween s
+    kept-none-between : source h k ≡ run-writer h line k → NoneBetween s
     kept-none-between q = ⊎-elim own other (either (wrote-item h reader title k))
       where
         on-one-copy : some s ≡ run-writer h line k
@@ -123,3 +119,24 @@ module _ (h : History) (line : List ℕ) (k : ℕ) where
     -- THEOREM: the read has the writer of a run on a single copy exactly where no other writer stands between
     pub read-kept-exactly : (source h k ≡ run-writer h line k) ↔ NoneBetween s
     read-kept-exactly = (kept-none-between, read-kept)
+
+-- So of a whole line, over the reads that count and are real.
+module _ (h : History) (line : List ℕ) where
+  -- of no read another writer stands between
+  abbrev pub NoneEverBetween : Type 0
+  NoneEverBetween = (k s : ℕ) → ReadsFrom h (h .item k) (h .transaction k) s k → NoneBetween h line k s
+
+  module _ (sound : Sound h) where
+    -- THEOREM: a line in log order is one of a single copy exactly where that is so
+    pub one-copy-line : InLogOrder h line → NoneEverBetween → OneCopyLine h line
+    one-copy-line o f =
+        record {
+          in-log-order = o;
+          keeps-reads = λ k c read real.
+              let has = sound .has-source k c read in
+              let r = reads-from h k (has .origin) c real (has .from) in read-kept h line k sound o (has .origin) r (f k (has .origin) r);
+        }
+
+    pub one-copy-between : OneCopyLine h line → NoneEverBetween
+    one-copy-between l k s r =
+        read-kept-exactly h line k sound (l .in-log-order) s r .0 (l .keeps-reads k (r .counts) (source-reads h k s (r .from)) (r .is-real))

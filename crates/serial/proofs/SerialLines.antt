@@ -1,12 +1,10 @@
 -- For every sound history, the lines that demand 3 describes from the history alone are exactly the lines that keep every edge of the graph.
 use Prim.Native.Nat.{ℕ}
-use mathlib.Core.Path.{_≡_, refl, sym, _∙_, subst}
+use mathlib.Core.Path.{_≡_, sym, _∙_, subst}
 use mathlib.Core.Bool.{true}
 use mathlib.Core.List.{List}
-use mathlib.Core.Option.{some}
-use mathlib.Core.Logic.{_⊎_, inl, inr, ⊎-elim, _↔_}
-use Rattle.histories.specs.History.{History, Counts}
-use Rattle.histories.specs.Source.{source}
+use mathlib.Core.Logic.{⊎-elim, _↔_}
+use Rattle.histories.specs.History.{History}
 use Rattle.histories.specs.Order.{comes-before}
 use Rattle.histories.specs.Reasons.{conflict, write-order, read-before, edge}
 use Rattle.histories.specs.Chapter.{serialization-edge, ReadsFrom, Writer}
@@ -15,23 +13,17 @@ use Rattle.histories.proofs.Orders.{one-comes-first}
 use Rattle.histories.proofs.Reasons.{InWriteOrder, ReadBefore, write-order-found, read-before-found}
 use Rattle.histories.proofs.Edges.{Two, edge-two, edge-reasons}
 use Rattle.histories.proofs.Chapter.{ordered-edge, reader-edge, extends-SG, source-writes}
-use Rattle.lines.specs.Rule.{among}
 use Rattle.lines.specs.Lines.{stands-before, Line}
-use Rattle.lines.proofs.Chosen.{within-from, within-to, within-other, within-edge, is-within}
+use Rattle.lines.proofs.Chosen.{within-edge}
 use Rattle.lines.proofs.Stands.{stands-not-itself}
-use Rattle.serial.specs.Run.{run-writer}
-use Rattle.serial.specs.Serial.{KeepsWriteOrder, KeepsReads, InLogOrder, OneCopyLine, SerialLine}
-use Rattle.serial.proofs.Histories.{source-reads, SG-two}
+use Rattle.serial.specs.Serial.{KeepsWriteOrder, InLogOrder, SerialLine}
+use Rattle.serial.proofs.Histories.{counts-of, reads-from}
 use Rattle.serial.proofs.Runs.{one-stands-first, not-both}
 use Rattle.serial.proofs.Graphs.{line-keeps}
 use Rattle.serial.proofs.LogOrders.{conflict-kept, log-order-exactly}
-use Rattle.serial.proofs.OneCopy.{NoneBetween, read-kept, kept-none-between}
+use Rattle.serial.proofs.OneCopy.{NoneEverBetween, one-copy-line, one-copy-between}
 
 module _ (h : History) (sound : Sound h) (line : List ℕ) where
-  -- a read that counts and is real, from its source
-  reads-from : (k s : ℕ) → Counts h k → h .real k ≡ true → source h k ≡ some s → ReadsFrom h (h .item k) (h .transaction k) s k
-  reads-from k s c real q = record { counts = c; its-own = refl; of-item = refl; is-real = real; from = q }
-
   -- a serial line keeps every edge
   module _ (s : SerialLine h line) where
     in-order : InLogOrder h line
@@ -43,11 +35,8 @@ module _ (h : History) (sound : Sound h) (line : List ℕ) where
         ⊎-elim (λ (a : stands-before line i j ≡ true). a) (λ (b : stands-before line j i ≡ true). absurd (between b))
         (one-stands-first line i j (in-order .all-and-only i ∙ two .from-part) (in-order .all-and-only j ∙ two .to-part) (two .other))
       where
-        counts : Counts h (r .at)
-        counts = record { there = r .there; part = subst (λ (t : ℕ). h .takes-part t ≡ true) (sym (r .reader)) (two .from-part) }
-
         from : ReadsFrom h (h .item (r .at)) (h .transaction (r .at)) (r .origin) (r .at)
-        from = reads-from (r .at) (r .origin) counts (r .is-real) (r .from)
+        from = reads-from h (r .at) (r .origin) (counts-of h (r .at) i (r .there) (r .reader) (two .from-part)) (r .is-real) (r .from)
 
         writer : Writer h (h .item (r .at)) j
         writer = record { part = two .to-part; wrote = r .next .wrote }
@@ -57,15 +46,10 @@ module _ (h : History) (sound : Sound h) (line : List ℕ) where
             s .keeps-write-order (h .item (r .at)) (r .origin) j
             (source-writes h sound (h .item (r .at)) (h .transaction (r .at)) (r .origin) (r .at) from) writer (λ q. r .next .other (sym q)) (r .next .comes-after)
 
-        none-between : NoneBetween h line (r .at) (r .origin)
-        none-between =
-            kept-none-between h line (r .at) sound in-order (r .origin) from
-            (s .one-copy .keeps-reads (r .at) counts (source-reads h (r .at) (r .origin) (r .from)) (r .is-real))
-
         between : stands-before line j i ≡ true → ⊥
         between b =
             not-both line (r .origin) j (in-order .each-once) source-first
-            (none-between j writer (r .next .other) (subst (λ (t : ℕ). stands-before line j t ≡ true) (sym (r .reader)) b))
+            (one-copy-between h line sound (s .one-copy) (r .at) (r .origin) from j writer (r .next .other) (subst (λ (t : ℕ). stands-before line j t ≡ true) (sym (r .reader)) b))
 
     -- so each of the three reasons puts i before j
     keeps-edge : (i j : ℕ) → edge h i j ≡ true → stands-before line i j ≡ true
@@ -108,7 +92,7 @@ module _ (h : History) (sound : Sound h) (line : List ℕ) where
     order-kept x i j v w d b = kept i j (ordered-edge h x i j v w d b)
 
     -- .. of the writers before a reader none comes after its source, so each stands before it
-    none-after : (k s : ℕ) → ReadsFrom h (h .item k) (h .transaction k) s k → NoneBetween h line k s
+    none-after : NoneEverBetween h line
     none-after k s r t w d b =
         ⊎-elim (λ (g : comes-before h (h .item k) t s ≡ true). order-kept (h .item k) t s w v d g)
         (λ (g : comes-before h (h .item k) s t ≡ true). absurd (wrong-way g)) (one-comes-first h sound (h .item k) t s w v d)
@@ -123,14 +107,8 @@ module _ (h : History) (sound : Sound h) (line : List ℕ) where
             (reader-edge h (h .item k) s (h .transaction k) t k r w d
             (λ q. stands-not-itself line t (l .none-twice) (subst (λ (u : ℕ). stands-before line t u ≡ true) (sym q) b)) g))
 
-    reads-kept : KeepsReads h line
-    reads-kept k c read real =
-        let has = sound .has-source k c read in
-        let r = reads-from k (has .origin) c real (has .from) in
-        read-kept h line k sound in-log-order (has .origin) r (none-after k (has .origin) r)
-
     line-serial : SerialLine h line
-    line-serial = record { one-copy = record { in-log-order = in-log-order; keeps-reads = reads-kept }; keeps-write-order = order-kept }
+    line-serial = record { one-copy = one-copy-line h line sound in-log-order none-after; keeps-write-order = order-kept }
 
   -- THEOREM: the lines that demand 3 asks for are the lines of the graph
   pub serial-exactly : SerialLine h line ↔ Line (edge h) (h .takes-part) line

@@ -2,7 +2,7 @@
 -- them, and what their last writers have done.
 use Prim.Native.Nat.{ℕ, _<_}
 use mathlib.Core.Path.{_≡_}
-use mathlib.Core.Bool.{true, _&&_}
+use mathlib.Core.Bool.{Bool, true, _&&_}
 use mathlib.Core.List.{List}
 use mathlib.Core.Option.{Option, some}
 use Rattle.sets.specs.Search.{last-below}
@@ -52,9 +52,12 @@ module _ (h : History) where
     pub is-serial : SerialLine line
     pub smallest : (other : List ℕ) → SerialLine other → AtMost line other
 
-  -- the last write on the copy c by one that takes part, if there is one
+  -- record e is a write on the copy c, of one that takes part; the last of them, if there is one
+  abbrev pub part-writes : ℕ → ℕ → Bool
+  part-writes c e = h .takes-part (h .transaction e) && writes-copy h e c
+
   abbrev pub last-write : ℕ → Option ℕ
-  last-write c = last-below (h .size) (λ e. h .takes-part (h .transaction e) && writes-copy h e c)
+  last-write c = last-below (h .size) (part-writes c)
 
   -- t made it
   pub record MadeLastWrite (t c : ℕ) : Type 0 where
