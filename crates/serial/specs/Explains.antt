@@ -14,13 +14,13 @@ use Rattle.lines.specs.Lines.{stands-before, Cycle, FromLowest}
 use Rattle.serial.specs.Serial.{SerialLine, SmallestSerial, LastWritesKept}
 
 module _ (h : History) (n : ℕ) where
-  -- A line, where the transactions that take part are numbers below n
+  -- a line, where those that take part are numbers below n
   pub record ExplainsByLine (xs : List ℕ) : Type 0 where
     -- "The line given is the smallest of these in transaction numbers, read from the left. Its last writer of an item made the last write on
     -- each copy of the item that it wrote."
     pub smallest : SmallestSerial h xs
     pub last-writes-kept : LastWritesKept h xs
-    -- the graph's side: "no edge of that rule is missing", "The chapter's two conditions therefore hold wherever the graph has no cycle"
+    -- it keeps every edge; "The chapter's two conditions therefore hold wherever the graph has no cycle"
     pub keeps-every-edge : (i j : ℕ) → edge h i j ≡ true → stands-before xs i j ≡ true
     pub is-RDSG : RDSG h (edge h)
     pub acyclic : Acyclic (edge h)
