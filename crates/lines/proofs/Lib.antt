@@ -5,6 +5,7 @@ pub mod Chosen
 pub mod Waiting
 pub mod Clauses
 pub mod Placing
+pub mod Turned
 pub mod Rings
 pub mod Endings
 pub mod Sorts

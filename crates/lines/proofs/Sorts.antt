@@ -19,7 +19,8 @@ use Rattle.lines.proofs.Lists.{among-nil, among-cases, pigeonhole}
 use Rattle.lines.proofs.Chosen.{next-none, within-more, waiting}
 use Rattle.lines.proofs.Clauses.{sorted-line, sorted-cycle}
 use Rattle.lines.proofs.Placing.{steps-line, line-steps, line-acyclic, line-length, no-line, rest-within, rest-ends, placed-steps, placed-smallest}
-use Rattle.lines.proofs.Rings.{cycle-precedes, linked-more, from-lowest, to-lowest-cycle, walk-cycle}
+use Rattle.lines.proofs.Turned.{from-lowest}
+use Rattle.lines.proofs.Rings.{cycle-precedes, linked-more, to-lowest-cycle, walk-cycle}
 
 -- a cycle among those left is one of the set
 pub cycle-more : (edge : ℕ → ℕ → Bool) (small large : ℕ → Bool) → ((t : ℕ) → small t ≡ true → large t ≡ true)

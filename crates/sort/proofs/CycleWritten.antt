@@ -8,7 +8,7 @@ use mathlib.Core.List.{List}
 use lib.ListN.{length, take, drop, length-drop}
 use lib.Seq.{sets, slice, take-add, take-take, drop-at, drop-drop, length-take-le}
 use Rattle.lines.specs.Rule.{among, place-of, lowest-member, turned, to-lowest, up-to}
-use Rattle.lines.proofs.Rings.{length-turned, lowest-member-in, to-lowest-said}
+use Rattle.lines.proofs.Turned.{length-turned, lowest-member-in, to-lowest-said}
 use Rattle.lines.proofs.Lists.{place-low}
 use Rattle.sort.proofs.Parts.{sets-append, place-in}
 
@@ -60,7 +60,7 @@ module _ (path : List ℕ) (at again : ℕ) (there : among (drop at path) again 
       pub low-to : low ≤ last
       low-to = omega (arith, low-place, p-low, ring-length, found)
 
-      pub ring-written : (to : List ℕ)
+      ring-written : (to : List ℕ)
           → sets (sets to 0 (slice low (last + 1) path)) (last + 1 - low) (slice at low path) ≡ sets to 0 (to-lowest ring)
       ring-written to =
           ap (λ (xs : List ℕ). sets (sets to 0 xs) (last + 1 - low) (slice at low path)) first-part
@@ -81,5 +81,18 @@ module _ (path : List ℕ) (at again : ℕ) (there : among (drop at path) again 
               ∙ slice-take path at p (omega (arith, found, last-low))
               ∙ sym (take-take p (suc (place-of again (drop at path))) (drop at path) (omega (arith, p-low, ring-length, found)))
 
-      pub ring-count : last + 1 - at ≡ length (to-lowest ring)
+      ring-count : last + 1 - at ≡ length (to-lowest ring)
       ring-count = sym (sym (ap length (to-lowest-said ring)) ∙ length-turned ring p (omega (arith, p-low)) ∙ ring-length)
+
+      -- the ring is the walk: so this is what stands there when both parts have been written, and how many they are
+      module _ (walk : List ℕ) (is-walk : ring ≡ walk) where
+        pub walk-written : (to : List ℕ) {one two : List ℕ} → one ≡ sets to 0 (slice low (last + 1) path)
+            → two ≡ sets one (last + 1 - low) (slice at low path) → two ≡ sets to 0 (to-lowest walk)
+        walk-written to first-written second-written =
+            second-written
+            ∙ ap (λ (xs : List ℕ). sets xs (last + 1 - low) (slice at low path)) first-written
+            ∙ ring-written to
+            ∙ ap (λ (xs : List ℕ). sets to 0 (to-lowest xs)) is-walk
+
+        pub walk-count : last + 1 - at ≡ length (to-lowest walk)
+        walk-count = ring-count ∙ ap (λ (xs : List ℕ). length (to-lowest xs)) is-walk

@@ -11,7 +11,7 @@ use lib.ListN.{length, take, drop, getD, set, length-drop}
 use lib.Seq.{sets, slice, sets-eq, take-at, length-slice, slice-empty, take-suc, getD-take, getD-drop, drop-append-le, length-take-le}
 use Rattle.lines.specs.Rule.{among, place-of, lowest-member}
 use Rattle.lines.proofs.Lists.{place-low, place-entry, place-before}
-use Rattle.lines.proofs.Rings.{lowest-place-is}
+use Rattle.lines.proofs.Turned.{lowest-place-is}
 
 -- a list written after another
 pub sets-append : (xs ys to : List ℕ) (at : ℕ) → sets to at (xs ++ ys) ≡ sets (sets to at xs) (at + length xs) ys

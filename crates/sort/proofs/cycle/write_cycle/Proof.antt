@@ -1,16 +1,17 @@
 -- `sort::cycle::write_cycle` meets its contract: the laws in CycleWritten say what the two parts written are.
 use borrow.Author.Needs.{needs}
 use native.Mathlib.Omega.{arith}
-use mathlib.Core.Path.{_≡_, _∙_, ap}
+use mathlib.Core.Path.{_≡_}
 use mathlib.Core.Bool.{true}
 use mathlib.Core.List.{List}
-use Prim.Native.Nat.{ℕ, _+_, _-_, _<_, _≤_}
+use Prim.Native.Nat.{ℕ, _+_, _<_, _≤_}
 use lib.ListN.{length, drop}
 use lib.Seq.{sets, slice}
 use denote.Ref.{now}
 use Rattle.sets.specs.Bits.{numbers}
-use Rattle.lines.specs.Rule.{among, place-of, lowest-member, to-lowest}
-use Rattle.sort.proofs.CycleWritten.{last-low, low-from, low-to, ring-written, ring-count}
+use Rattle.lines.specs.Rule.{among, place-of, lowest-member}
+use Rattle.sort.specs.WaitsFor.{walked}
+use Rattle.sort.proofs.CycleWritten.{last-low, low-from, low-to, walk-written, walk-count}
 use Rattle.sort.proofs.cycle.write_cycle.Statement.{statement}
 use Rattle.sort.proofs.cycle.write_cycle.Tie as tie
 
@@ -94,20 +95,18 @@ write-part-requires-2 c κs =
 sub-result : tie.Need-sub-result
 sub-result c = let l = c .before .before .before .before .before .before in omega (arith, from l, upto l)
 
--- what stands there then is the ring, turned to its lowest; and the ring is the rule's walk
 returns : tie.Need-returns
 returns c =
     let first-part = c .before .before .before in
     let l = first-part .before .before .before in
     let p = cut l in
-    let is-walk = walk p .walk-back .ensures .is-walk in
-    let to = now (walk p .before .before .args .members) in (
-      ring-count (path p) (at p) (again p) (there p) (last p) (is-last p) (low l) (is-lowest l)
-          ∙ ap (λ (xs : List ℕ). length (to-lowest xs)) is-walk,
-      c .write-part2 .ensures
-          ∙ ap (λ (xs : List ℕ). sets xs (last p + 1 - low l) (slice (at p) (low l) (path p))) (first-part .write-part .ensures)
-          ∙ ring-written (path p) (at p) (again p) (there p) (last p) (is-last p) (low l) (is-lowest l) to
-          ∙ ap (λ (xs : List ℕ). sets to 0 (to-lowest xs)) is-walk,
+    let to = now (walk p .before .before .args .members) in
+    let first = walk p .before .before .args .first in
+    let rule-walk = walked (now (walk p .before .before .args .waits)) first in
+    let is-walk = walk p .walk-back .ensures .is-walk in (
+      walk-count (path p) (at p) (again p) (there p) (last p) (is-last p) (low l) (is-lowest l) rule-walk is-walk,
+      walk-written (path p) (at p) (again p) (there p) (last p) (is-last p) (low l) (is-lowest l) rule-walk is-walk to
+          (first-part .write-part .ensures) (c .write-part2 .ensures),
     )
 
 pub write-cycle-spec : {M : Type 1} → statement M
