@@ -24,50 +24,53 @@ loop-holds c = let a = c .args in path-start numbers (now (a .waits)) (a .first)
 has-member-requires : tie.Need-has-member-requires Inv-loop μ-loop
 has-member-requires c κs = c .loop .inv .again-low
 
--- at a new one
+-- at one that is not on the path yet
 module _ (c : tie.Then1 Inv-loop μ-loop) where
-  abbrev e : tie.At-loop Inv-loop μ-loop
-  e = c .before .before
+  abbrev turn : tie.At-loop Inv-loop μ-loop
+  turn = c .before .before
 
   abbrev waits : List ℕ
-  waits = now (e .before .args .waits)
+  waits = now (turn .before .args .waits)
 
   abbrev kept : Kept waits
-  kept = e .before .pre .0
+  kept = turn .before .pre .0
 
-  new : has (e .loop .seen) (e .loop .again) ≡ false
+  new : has (turn .loop .seen) (turn .loop .again) ≡ false
   new = sym (c .before .has-member .ensures) ∙ not-true (c .before .has-member .result) (c .if1 .taken)
 
-  room : 1 ≤ e .loop .at
-  room = path-room numbers waits (e .before .args .first) (e .loop .path) (e .loop .at) (e .loop .seen) (e .loop .again) (e .loop .inv) new
+  room : 1 ≤ turn .loop .at
+  room =
+      let l = turn .loop in
+      path-room numbers waits (turn .before .args .first) (l .path) (l .at) (l .seen) (l .again) (l .inv) new
 
 sub-at : tie.Need-sub-at Inv-loop μ-loop
 sub-at c = room c
 
 cast-path : tie.Need-cast-path Inv-loop μ-loop
-cast-path c = omega (arith, e c .loop .inv .again-low)
+cast-path c = omega (arith, turn c .loop .inv .again-low)
 
 element-write-path : tie.Need-element-write-path Inv-loop μ-loop
-element-write-path c = omega (arith, e c .loop .inv .inside, room c)
+element-write-path c = omega (arith, turn c .loop .inv .inside, room c)
 
 with-member-requires : tie.Need-with-member-requires Inv-loop μ-loop
-with-member-requires c κs = e c .loop .inv .again-low
+with-member-requires c κs = turn c .loop .inv .again-low
 
 element-copy-out-again : tie.Need-element-copy-out-again Inv-loop μ-loop
-element-copy-out-again c = e (c .before) .loop .inv .again-low
+element-copy-out-again c = turn (c .before) .loop .inv .again-low
 
 cast-again : tie.Need-cast-again Inv-loop μ-loop
-cast-again c = let t = c .before .before in omega (arith, kept t .low (e t .loop .again))
+cast-again c = let new-one = c .before .before in omega (arith, kept new-one .low (turn new-one .loop .again))
 
 loop-less : tie.Need-loop-less Inv-loop μ-loop
 loop-less c = omega (arith, room (c .before .before))
 
 loop-again : tie.Need-loop-again Inv-loop μ-loop
 loop-again c =
-    let t = c .before .before in
-    let l = e t .loop in
-    path-step numbers (waits t) (e t .before .args .first) (l .path) (l .at) (l .seen) (l .again) (l .inv) (new t) (c .before .with-member .result)
-    (c .before .with-member .ensures) (kept t .low (l .again))
+    let new-one = c .before .before in
+    let l = turn new-one .loop in
+    let first = turn new-one .before .args .first in
+    path-step numbers (waits new-one) first (l .path) (l .at) (l .seen) (l .again) (l .inv) (new new-one) (c .before .with-member .result)
+    (c .before .with-member .ensures) (kept new-one .low (l .again))
 
 cast-t14 : tie.Need-cast-t14 Inv-loop μ-loop
 cast-t14 c = omega (arith, c .before .before .loop .inv .again-low, c .before .before .before .pre .1 .0)
