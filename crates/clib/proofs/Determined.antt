@@ -1,4 +1,4 @@
--- The promises of the C face determine the numbers and every byte of the buffers lent. Assumes nothing.
+-- The promises of the C face determine the numbers and every byte of the buffers lent.
 use Prim.Native.Nat.{ℕ}
 use mathlib.Core.Path.{_≡_, sym, _∙_}
 use mathlib.Core.List.{List}

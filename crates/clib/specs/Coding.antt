@@ -2,8 +2,8 @@
 -- a cycle; and a verdict.
 use Prim.Native.Nat.{ℕ}
 use mathlib.Core.Option.{Option, none, some}
-use Rattle.format.specs.Answer.{Answer, gives, refused}
-use Rattle.format.specs.Record.{transactions}
+use Rattle.rules.specs.Answer.{Answer, gives, refused}
+use Rattle.rules.specs.Record.{transactions}
 use Rattle.lines.specs.Rule.{LineOrCycle, line, cycle}
 use Rattle.clib.specs.declared.Coded.{Coded}
 use Rattle.clib.specs.declared.CodedSorted.{CodedSorted}

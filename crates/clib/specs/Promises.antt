@@ -5,13 +5,12 @@ use mathlib.Core.Path.{_≡_}
 use mathlib.Core.List.{List}
 use lib.ListN.{length}
 use lib.Seq.{sets}
-use Rattle.log.specs.Refusal.{check-answer}
-use Rattle.log.specs.Source.{source-answer}
-use Rattle.edges.specs.Reasons.{edge-answer}
+use Rattle.rules.specs.Questions.{source-answer, edge-answer}
+use Rattle.rules.specs.Refusals.{check-answer}
 use Rattle.lines.specs.Rule.{members-of, length-of}
 use Rattle.sort.specs.Promises.{sorted-table}
-use Rattle.verdict.specs.Verdict.{verdict-answer, how-many}
-use Rattle.verdict.specs.Promises.{LeavesRecords}
+use Rattle.answers.specs.Verdict.{verdict-answer, how-many}
+use Rattle.answers.specs.Verdict.{LeavesRecords}
 use Rattle.clib.specs.Coding.{coded, passed-value, source-value, reason-value, coded-sorted, coded-verdict}
 use Rattle.clib.specs.declared.Coded.{Coded}
 use Rattle.clib.specs.declared.CodedSorted.{CodedSorted}

@@ -1,9 +1,9 @@
--- The promises determine the answers about a graph, and the table that was lent. Assumes nothing.
+-- The promises determine the answers about a graph, and the table that was lent.
 use Prim.Native.Nat.{ℕ}
 use mathlib.Core.Path.{_≡_, sym, _∙_, ap}
 use mathlib.Core.List.{List}
-use Rattle.format.specs.Answer.{Answer, gives, refused}
-use Rattle.format.proofs.Answers.{said-number, said-place}
+use Rattle.rules.specs.Answer.{Answer, gives, refused}
+use Rattle.rules.proofs.Answers.{said-number, said-place}
 use Rattle.format.proofs.Determined.{same-refusal, no-zero}
 use Rattle.edges.specs.Numbers.{graph-says, edge-says}
 use Rattle.edges.specs.Promises.{GivesGraph, TellsEdge}

@@ -1,12 +1,2 @@
-pub mod Records
-pub mod Orders
-pub mod Steps
-pub mod Whole
-pub mod KeptOrders
-pub mod Conflicts
-pub mod Given
-pub mod Found
-pub mod Graphs
-pub mod Questions
-pub mod Chapter
+pub mod EdgeTables
 pub mod Determined

@@ -1,6 +1,6 @@
 -- What the code's answers about the graph say, in document 01's numbers.
 use Prim.Native.Nat.{ℕ}
-use Rattle.format.specs.Answer.{Answer, gives, refused}
+use Rattle.rules.specs.Answer.{Answer, gives, refused}
 use Rattle.format.specs.Numbers.{number-of, place-of}
 use Rattle.edges.specs.declared.graph.Graph.{Graph}
 use Rattle.edges.specs.declared.graph.Graph.the-variants.{Of, Refused}

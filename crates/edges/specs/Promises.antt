@@ -3,16 +3,14 @@
 use Prim.Native.Nat.{ℕ}
 use mathlib.Core.Path.{_≡_}
 use mathlib.Core.List.{List}
-use Rattle.log.specs.Refusal.{check-answer}
-use Rattle.edges.specs.Reasons.{edge-answer, edge-table, graph-answer, unless-refused}
+use Rattle.rules.specs.Questions.{edge-answer, Graphed}
 use Rattle.edges.specs.Numbers.{graph-says, edge-says}
 use Rattle.edges.specs.declared.graph.Graph.{Graph}
 use Rattle.edges.specs.declared.graph.Edge.{Edge}
 
 -- `graph_of_log`: a table was lent, which held `old` and now holds `new`
-pub record GivesGraph (log old : List ℕ) (answer : Graph) (new : List ℕ) : Type 0 where
-  pub says : graph-says answer ≡ graph-answer log
-  pub leaves : new ≡ unless-refused (check-answer log) (edge-table log) old
+abbrev pub GivesGraph : (log old : List ℕ) → Graph → (new : List ℕ) → Type 0
+GivesGraph log old answer new = Graphed log old (graph-says answer) new
 
 -- `edge_between`, of any numbers i and j
 abbrev pub TellsEdge : List ℕ → (i j : ℕ) → Edge → Type 0

@@ -2,21 +2,22 @@
 ghost use mathlib.Core.Path.{_≡_};
 ghost use Prim.Native.Nat.{_<_};
 ghost use Rattle.sets.specs.Bits.{Holds};
-ghost use Rattle.format.specs.Answer.{passed};
-ghost use Rattle.format.specs.Record.{transactions};
-ghost use Rattle.log.specs.Refusal.{check-answer};
-ghost use Rattle.edges.specs.Reasons.{conflict, write-order, read-before, reason, members, edge-table};
+ghost use Rattle.histories.specs.Reasons.{conflict, write-order, read-before, reason};
+ghost use Rattle.rules.specs.LogHistory.{history-of};
+ghost use Rattle.rules.specs.Questions.{members, edge-table};
+ghost use Rattle.rules.specs.Record.{transactions};
+ghost use Rattle.rules.specs.Passes.{Passes};
 ghost use Rattle.edges.specs.Promises.{GivesGraph, TellsEdge};
-use crate::conflict::conflicts;
-use crate::order::keep_order;
-use crate::reasons::order_edges;
 use crate::table::joined;
 use crate::table::lowest_reason;
+use conflicts::conflicts;
 use format::record::Copy;
 use format::record::TRANSACTIONS;
 use format::refusal::Checked;
 use format::refusal::Refusal;
 use log::check::check;
+use orders::order::keep_order;
+use orders::reasons::order_edges;
 
 // The graph of a log: the set of its transactions, or a refusal. Its edges are in the table that was lent.
 pub enum Graph {
@@ -38,11 +39,11 @@ pub fn edges_by_reason(
     by_order: &mut [u64; TRANSACTIONS],
     by_read: &mut [u64; TRANSACTIONS],
 ) -> u64
-    requires { ⌜ check-answer (now log) ≡ passed ⌝ }
+    requires { ⌜ Passes (now log) ⌝ }
     ensures { λ r. ⌜ r ≡ members (now (log .entry)) ⌝ }
-    ensures { λ r. ⌜ Holds transactions (conflict (now (log .entry))) (now («by_conflict» .exit)) ⌝ }
-    ensures { λ r. ⌜ Holds transactions (write-order (now (log .entry))) (now («by_order» .exit)) ⌝ }
-    ensures { λ r. ⌜ Holds transactions (read-before (now (log .entry))) (now («by_read» .exit)) ⌝ }
+    ensures { λ r. ⌜ Holds transactions (conflict (history-of (now (log .entry)))) (now («by_conflict» .exit)) ⌝ }
+    ensures { λ r. ⌜ Holds transactions (write-order (history-of (now (log .entry)))) (now («by_order» .exit)) ⌝ }
+    ensures { λ r. ⌜ Holds transactions (read-before (history-of (now (log .entry)))) (now («by_read» .exit)) ⌝ }
 {
     *by_conflict = [0u64; TRANSACTIONS];
     *by_order = [0u64; TRANSACTIONS];
@@ -57,7 +58,7 @@ pub fn edges_by_reason(
 
 // The table of every edge of a log that passes; the result is the set of its transactions.
 fn edges_of_log(log: &[u8], table: &mut [u64; TRANSACTIONS]) -> u64
-    requires { ⌜ check-answer (now log) ≡ passed ⌝ }
+    requires { ⌜ Passes (now log) ⌝ }
     ensures { λ r. ⌜ r ≡ members (now (log .entry)) ⌝ }
     ensures { λ r. ⌜ now (table .exit) ≡ edge-table (now (log .entry)) ⌝ }
 {
@@ -81,9 +82,9 @@ pub fn graph_of_log(log: &[u8], table: &mut [u64; TRANSACTIONS]) -> Graph
 
 // The lowest reason of an edge from i to j in a log that passes. All edges are looked for, so it costs as much as the graph.
 fn reason_between(log: &[u8], i: usize, j: usize) -> u8
-    requires { ⌜ check-answer (now log) ≡ passed ⌝ }
+    requires { ⌜ Passes (now log) ⌝ }
     requires { ⌜ (i < transactions) × (j < transactions) ⌝ }
-    ensures { λ r. ⌜ r ≡ reason (now (log .entry)) i j ⌝ }
+    ensures { λ r. ⌜ r ≡ reason (history-of (now (log .entry))) i j ⌝ }
 {
     let mut by_conflict = [0u64; TRANSACTIONS];
     let mut by_order = [0u64; TRANSACTIONS];

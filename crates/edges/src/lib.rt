@@ -1,6 +1,3 @@
-// The graph of a log: the write order of an item, document 01's three reasons, and every edge between two transactions.
-mod conflict;
+// The graph of a log: every edge between two transactions, and the question about one.
 pub mod graph;
-mod order;
-mod reasons;
 pub mod table;

@@ -10,7 +10,7 @@ use Rattle.format.specs.declared.refusal.Refusal.the-variants.{TooLong, 
 use Rattle.format.specs.declared.refusal.Refusal.the-variants.{ReadsUnwritten, ReadsPastOwn, NeverCommits, BadQuestion}
 use Rattle.format.specs.declared.refusal.Checked.{Checked}
 use Rattle.format.specs.declared.refusal.Checked.the-variants.{Passed, Refused}
-use Rattle.format.proofs.Answers.{said-number, said-place}
+use Rattle.rules.proofs.Answers.{said-number, said-place}
 
 -- the refusal of a number and a place: the cases stand in the order of their numbers
 abbrev refusal-of : ℕ → ℕ → Refusal

@@ -1,5 +1,1 @@
-pub mod Answers
-pub mod KindBytes
-pub mod Forms
-pub mod Ranges
 pub mod Determined

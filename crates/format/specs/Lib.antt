@@ -1,4 +1,1 @@
-pub mod Record
-pub mod Answer
-pub mod Form
 pub mod Numbers

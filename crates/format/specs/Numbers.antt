@@ -1,7 +1,7 @@
 -- The numbers and places of document 01 for each case of the code's refusals. Every promise about a refusal speaks through these
 -- definitions.
 use Prim.Native.Nat.{ℕ}
-use Rattle.format.specs.Answer.{Answer, refused, passed}
+use Rattle.rules.specs.Answer.{Answer, refused, passed}
 use Rattle.format.specs.declared.refusal.Refusal.{Refusal}
 use Rattle.format.specs.declared.refusal.Refusal.the-variants.{TooLong, Ragged, ShortBuffer, BadKind, OutOfRange, AfterCommit}
 use Rattle.format.specs.declared.refusal.Refusal.the-variants.{ReadsUnwritten, ReadsPastOwn, NeverCommits, BadQuestion}

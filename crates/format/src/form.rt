@@ -2,9 +2,9 @@
 ghost use mathlib.Core.Path.{_≡_};
 ghost use mathlib.Core.Bool.{not};
 ghost use lib.Dec.{ltb};
-ghost use Rattle.format.specs.Answer.{row};
-ghost use Rattle.format.specs.Record.{transactions};
-ghost use Rattle.format.specs.Form.{form-answer};
+ghost use Rattle.rules.specs.Form.{form-rows};
+ghost use Rattle.rules.specs.Record.{transactions};
+ghost use Rattle.rules.specs.Rows.{row-answer, answer-of};
 ghost use Rattle.format.specs.Numbers.{checked-says};
 use crate::record::COMMIT;
 use crate::record::Copy;
@@ -16,7 +16,7 @@ use crate::refusal::Refusal;
 
 // Number 5 for the transaction, which every kind of record names from the same range.
 fn transaction_form(k: usize, transaction: u8) -> Checked
-    ensures { λ r. ⌜ checked-says r ≡ row 5 (not (ltb transaction transactions)) k ⌝ }
+    ensures { λ r. ⌜ checked-says r ≡ row-answer 5 (not (ltb transaction transactions)) k ⌝ }
 {
     match transaction {
         0..=LAST_TRANSACTION => Checked::Passed,
@@ -26,7 +26,7 @@ fn transaction_form(k: usize, transaction: u8) -> Checked
 
 // Numbers 4 and 5 for the bytes of the record at place k. A read or a write names any copy, a commit item 0 and site 0.
 pub fn form_answer(k: usize, kind: u8, transaction: u8, item: u8, site: u8) -> Checked
-    ensures { λ r. ⌜ checked-says r ≡ form-answer k kind transaction item site ⌝ }
+    ensures { λ r. ⌜ checked-says r ≡ answer-of (form-rows k kind transaction item site) ⌝ }
 {
     match kind {
         READ | WRITE => match item {

@@ -1,7 +1,7 @@
 // What a log is made of: records of four bytes, and the copies that they name.
 ghost use mathlib.Core.Path.{_≡_};
 ghost use Prim.Native.Nat.{_*_, _<_};
-ghost use Rattle.format.specs.Record.{transactions, items, sites, kind, transaction, item, site, records, copy-number, copy-of, Within};
+ghost use Rattle.rules.specs.Record.{transactions, items, sites, kind, transaction, item, site, records, copy-number, copy-of, Within};
 
 // A record's bytes: kind, transaction, item, site.
 pub const RECORD_BYTES: usize = 4;

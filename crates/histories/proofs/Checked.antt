@@ -25,6 +25,15 @@ module _ (h : History) where
       only-between c d (λ (w : c < d). clash (after-commit h d) (after-commit-hit c d w b q) (no-6 d m))
       (λ (w : d < c). clash (after-commit h c) (after-commit-hit d c w e (sym q)) (no-6 c l))
 
+  -- 7 and 8 are about reads
+  pub not-unwritten : (k : ℕ) → h .is-read k ≡ false → reads-unwritten h k ≡ false
+  unfolding reads-unwritten
+  not-unwritten k r = rw r refl
+
+  pub not-past-own : (k : ℕ) → h .is-read k ≡ false → reads-past-own h k ≡ false
+  unfolding reads-past-own
+  not-past-own k r = rw r refl
+
   -- 7: a read has a source
   pub read-written : (k : ℕ) → reads-unwritten h k ≡ false → h .is-read k ≡ true → is-written h k ≡ true
   unfolding reads-unwritten

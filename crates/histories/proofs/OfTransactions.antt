@@ -2,8 +2,8 @@
 -- transaction has written.
 use Prim.Native.Nat.{ℕ, _+_, _<_}
 use native.Mathlib.Omega.{arith}
-use mathlib.Core.Path.{_≡_, refl}
-use mathlib.Core.Bool.{Bool, true, _&&_}
+use mathlib.Core.Path.{_≡_, refl, sym, ap}
+use mathlib.Core.Bool.{Bool, true, false, _&&_}
 use mathlib.Core.Option.{Option, none, some}
 use lib.Dec.{eqb}
 use borrow.Author.Tests.{eq-eqb, eqb-true}
@@ -134,6 +134,33 @@ module _ (h : History) where
   pub writes-copy-hit : (e c : ℕ) → h .is-write e ≡ true → h .copy e ≡ c → writes-copy h e c ≡ true
   unfolding writes-copy
   writes-copy-hit e c w q = and-true (h .is-write e) (eqb (h .copy e) c) w (eq-eqb (h .copy e) c q)
+
+  -- what a write writes, and that no other record writes
+  module _ (e : ℕ) where
+    pub copy-writes : h .is-write e ≡ true → (c : ℕ) → writes-copy h e c ≡ eqb (h .copy e) c
+    unfolding writes-copy
+    copy-writes w c = rw w refl
+
+    pub item-writes : h .is-write e ≡ true → (x : ℕ) → writes-item h e x ≡ eqb (h .item e) x
+    unfolding writes-item
+    item-writes w x = rw w refl
+
+    pub copy-silent : h .is-write e ≡ false → (c : ℕ) → writes-copy h e c ≡ false
+    unfolding writes-copy
+    copy-silent w c = rw w refl
+
+    pub item-silent : h .is-write e ≡ false → (x : ℕ) → writes-item h e x ≡ false
+    unfolding writes-item
+    item-silent w x = rw w refl
+
+    -- by an item or a copy that was read from the record
+    pub writes-item-of : (d : ℕ) {x : ℕ} → x ≡ h .item e → writes-item h e d ≡ (h .is-write e && eqb x d)
+    unfolding writes-item
+    writes-item-of d q = ap (λ (y : ℕ). h .is-write e && eqb y d) (sym q)
+
+    pub writes-copy-of : (d : ℕ) {c : ℕ} → c ≡ h .copy e → writes-copy h e d ≡ (h .is-write e && eqb c d)
+    unfolding writes-copy
+    writes-copy-of d q = ap (λ (y : ℕ). h .is-write e && eqb y d) (sym q)
 
   -- t has written the copy c, or the item x, before record k
   pub record WroteCopy (t c k : ℕ) : Type 0 where

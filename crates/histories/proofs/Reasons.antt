@@ -16,6 +16,10 @@ use Rattle.histories.proofs.Orders.{WriterAfter, writer-after-found, wr
 
 module _ (h : History) (e j : ℕ) where
   -- what record e gives by reason 2: a write, the writers after its own transaction
+  pub order-given : gives-write-order h e j ≡ (h .is-write e && writer-after h (h .item e) (h .transaction e) j)
+  unfolding gives-write-order
+  order-given = refl
+
   pub write-gives : h .is-write e ≡ true → gives-write-order h e j ≡ writer-after h (h .item e) (h .transaction e) j
   unfolding gives-write-order
   write-gives w = rw w refl

@@ -1,13 +1,13 @@
--- The promises determine the answers of a check and of the question of a source. Assumes nothing.
+-- The promises determine the answers of a check and of the question of a source.
 use Prim.Native.Nat.{ℕ, suc, _-_}
 use native.Mathlib.Omega.{arith}
 use mathlib.Core.Path.{_≡_, refl, sym, _∙_, ap}
 use mathlib.Core.List.{List}
 use mathlib.Core.Option.{Option, none, some}
-use Rattle.format.specs.Answer.{Answer, gives, refused}
+use Rattle.rules.specs.Answer.{Answer, gives, refused}
+use Rattle.rules.proofs.Answers.{said-number, said-place}
 use Rattle.format.specs.declared.refusal.Checked.{Checked}
 use Rattle.format.proofs.Determined.{same-refusal, no-zero, same-checked}
-use Rattle.format.proofs.Answers.{said-number, said-place}
 use Rattle.log.specs.Numbers.{source-says, found-says}
 use Rattle.log.specs.Promises.{ChecksLength, ChecksContent, ChecksLog, FindsSource, TellsSource}
 use Rattle.log.specs.declared.source.Found.{Found}

@@ -1,9 +1,4 @@
-pub mod Steps
-pub mod Histories
-pub mod Ends
-pub mod Records
-pub mod Lengths
-pub mod Sources
+pub mod Keeping
+pub mod TestsKept
+pub mod EndKept
 pub mod Determined
-pub mod Table
-pub mod Passed

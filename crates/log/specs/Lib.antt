@@ -1,6 +1,3 @@
-pub mod Refusal
-pub mod Given
-pub mod Source
 pub mod Numbers
 pub mod Promises
 pub mod Kept

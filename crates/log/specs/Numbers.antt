@@ -1,7 +1,7 @@
 -- What the code's answers about a source say, a refusal in document 01's number and place.
 use Prim.Native.Nat.{ℕ}
 use mathlib.Core.Option.{Option, none, some}
-use Rattle.format.specs.Answer.{Answer, gives, refused}
+use Rattle.rules.specs.Answer.{Answer, gives, refused}
 use Rattle.format.specs.Numbers.{number-of, place-of}
 use Rattle.log.specs.declared.source.Found.{Found}
 use Rattle.log.specs.declared.source.Found.the-variants.{At, None as NoneFound}

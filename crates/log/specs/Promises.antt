@@ -5,8 +5,10 @@ use mathlib.Core.Path.{_≡_}
 use mathlib.Core.List.{List}
 use Rattle.format.specs.Numbers.{checked-says}
 use Rattle.format.specs.declared.refusal.Checked.{Checked}
-use Rattle.log.specs.Refusal.{length-answer, content-answer, check-answer}
-use Rattle.log.specs.Source.{source-record, source-answer}
+use Rattle.histories.specs.Source.{source-record}
+use Rattle.rules.specs.LogHistory.{history-of}
+use Rattle.rules.specs.Questions.{source-answer}
+use Rattle.rules.specs.Refusals.{length-answer, content-answer, check-answer}
 use Rattle.log.specs.Numbers.{found-says, source-says}
 use Rattle.log.specs.declared.source.Found.{Found}
 use Rattle.log.specs.declared.source.Source.{Source}
@@ -23,9 +25,9 @@ ChecksContent log answer = checked-says answer ≡ content-answer log
 abbrev pub ChecksLog : List ℕ → Checked → Type 0
 ChecksLog log answer = checked-says answer ≡ check-answer log
 
--- `source_record`, of a record k of a log that passes
+-- `source_record`, of a record k of a log within the limits
 abbrev pub FindsSource : List ℕ → ℕ → Found → Type 0
-FindsSource log k answer = found-says answer ≡ source-record log k
+FindsSource log k answer = found-says answer ≡ source-record (history-of log) k
 
 -- `source_of_record`, of any number k
 abbrev pub TellsSource : List ℕ → ℕ → Source → Type 0

@@ -1,9 +1,10 @@
 // The check of a log: numbers 1, 2 and 4 to 9, in one pass over the records.
 ghost use mathlib.Core.Path.{_≡_};
 ghost use Prim.Native.Nat.{_<_};
-ghost use Rattle.format.specs.Record.{records};
+ghost use Rattle.rules.specs.Record.{records};
+ghost use Rattle.rules.specs.Refusals.{record-rows, end-rows};
+ghost use Rattle.rules.specs.Rows.{answer-of};
 ghost use Rattle.format.specs.Numbers.{checked-says};
-ghost use Rattle.log.specs.Refusal.{record-answer, end-answer};
 ghost use Rattle.log.specs.Promises.{ChecksLength, ChecksContent, ChecksLog};
 ghost use Rattle.log.specs.Kept.{KeptCopies, KeptItems, KeptCommits, KeptNames};
 use crate::kept::history_answer;
@@ -24,7 +25,7 @@ use format::refusal::Refusal;
 fn end_answer(log: &[u8], named: u64, committed: u64, firsts: &[usize; TRANSACTIONS]) -> Checked
     requires { ⌜ KeptNames (now log) (records (now log)) named (now firsts) ⌝ }
     requires { ⌜ KeptCommits (now log) (records (now log)) committed ⌝ }
-    ensures { λ r. ⌜ checked-says r ≡ end-answer (now (log .entry)) ⌝ }
+    ensures { λ r. ⌜ checked-says r ≡ answer-of (end-rows (now (log .entry))) ⌝ }
 {
     // Nearly every log ends here, without the search.
     if named == committed {
@@ -52,7 +53,7 @@ fn record_answer(
     requires { ⌜ KeptCopies (now log) k (now «copy_writers») ⌝ }
     requires { ⌜ KeptItems (now log) k (now «item_writers») ⌝ }
     requires { ⌜ KeptCommits (now log) k committed ⌝ }
-    ensures { λ r. ⌜ checked-says r ≡ record-answer (now (log .entry)) k ⌝ }
+    ensures { λ r. ⌜ checked-says r ≡ answer-of (record-rows (now (log .entry)) k) ⌝ }
 {
     let r = record_at(log, k);
     let form = form_answer(k, r.kind, r.transaction, r.item, r.site);

@@ -3,9 +3,11 @@
 ghost use mathlib.Core.Path.{_≡_};
 ghost use mathlib.Core.Bool.{true};
 ghost use Prim.Native.Nat.{_+_};
-ghost use Rattle.format.specs.Record.{Within, is-read};
+ghost use Rattle.rules.specs.Record.{Within, is-read};
+ghost use Rattle.rules.specs.Refusals.{read-rows, history-rows};
+ghost use Rattle.rules.specs.Rows.{answer-of};
+ghost use Rattle.rules.specs.LogHistory.{history-of};
 ghost use Rattle.format.specs.Numbers.{checked-says};
-ghost use Rattle.log.specs.Refusal.{read-answer, history-answer};
 ghost use Rattle.log.specs.Kept.{KeptCopies, KeptItems, KeptCommits, KeptNames};
 use format::record::COMMIT;
 use format::record::Copy;
@@ -30,7 +32,7 @@ fn read_answer(
     requires { ⌜ is-read (now log) k ≡ true ⌝ }
     requires { ⌜ KeptCopies (now log) k (now «copy_writers») ⌝ }
     requires { ⌜ KeptItems (now log) k (now «item_writers») ⌝ }
-    ensures { λ r. ⌜ checked-says r ≡ read-answer (now (log .entry)) k ⌝ }
+    ensures { λ r. ⌜ checked-says r ≡ answer-of (read-rows (history-of (now (log .entry))) k) ⌝ }
 {
     let t = transaction_at(log, k);
     let c = copy_at(log, k);
@@ -60,7 +62,7 @@ pub(crate) fn history_answer(
     requires { ⌜ KeptCopies (now log) k (now «copy_writers») ⌝ }
     requires { ⌜ KeptItems (now log) k (now «item_writers») ⌝ }
     requires { ⌜ KeptCommits (now log) k committed ⌝ }
-    ensures { λ r. ⌜ checked-says r ≡ history-answer (now (log .entry)) k ⌝ }
+    ensures { λ r. ⌜ checked-says r ≡ answer-of (history-rows (history-of (now (log .entry))) k) ⌝ }
 {
     let t = transaction_at(log, k);
     if sets::has_member(committed, t) {

@@ -1,9 +1,10 @@
 // The source of a read, and the question "source of record k".
 ghost use mathlib.Core.Path.{_≡_};
 ghost use Prim.Native.Nat.{_<_};
-ghost use Rattle.format.specs.Answer.{passed};
-ghost use Rattle.format.specs.Record.{Within, records, writes-copy, copy-of};
-ghost use Rattle.log.specs.Refusal.{check-answer};
+ghost use Rattle.histories.specs.Source.{shows};
+ghost use Rattle.rules.specs.LogHistory.{history-of};
+ghost use Rattle.rules.specs.Record.{Within, records};
+ghost use Rattle.rules.specs.Passes.{InLimits};
 ghost use Rattle.log.specs.Promises.{FindsSource, TellsSource};
 use crate::check::check;
 use format::record::READ;
@@ -28,11 +29,11 @@ pub enum Source {
     Refused(Refusal),
 }
 
-// Whether record e writes the copy that record k names. Few name it, so that is asked first.
+// Whether record e is a write of the copy that record k names. Few name it, so that is asked first.
 fn writes_copy_of(log: &[u8], e: usize, k: usize) -> bool
     requires { ⌜ Within (now log) e ⌝ }
     requires { ⌜ Within (now log) k ⌝ }
-    ensures { λ r. ⌜ r ≡ writes-copy (now (log .entry)) e (copy-of (now (log .entry)) k) ⌝ }
+    ensures { λ r. ⌜ r ≡ shows (history-of (now (log .entry))) k e ⌝ }
 {
     if copy_at(log, e) != copy_at(log, k) {
         return false;
@@ -40,9 +41,9 @@ fn writes_copy_of(log: &[u8], e: usize, k: usize) -> bool
     kind_at(log, e) == WRITE
 }
 
-// In a log that passes, the last write of record k's copy before it; none where k is no read. Walks back over the records between.
+// In a log within the limits, the last write of record k's copy before it; none where k is no read. Walks back over the records between.
 pub fn source_record(log: &[u8], k: usize) -> Found
-    requires { ⌜ check-answer (now log) ≡ passed ⌝ }
+    requires { ⌜ InLimits (now log) ⌝ }
     requires { ⌜ k < records (now log) ⌝ }
     ensures { λ r. ⌜ FindsSource (now (log .entry)) k r ⌝ }
 {

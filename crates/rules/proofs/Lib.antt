@@ -1,2 +1,10 @@
 pub mod Answers
 pub mod Rows
+pub mod KindBytes
+pub mod Forms
+pub mod Ranges
+pub mod Table
+pub mod PassedLogs
+pub mod Lengths
+pub mod Asked
+pub mod Graphs

@@ -15,6 +15,10 @@ pub record Row : Type 0 where
 abbrev pub row : ℕ → Bool → ℕ → Row
 row n b p = record { number = n; applies = b; place = p }
 
+-- what one row answers by itself
+abbrev pub row-answer : ℕ → Bool → ℕ → Answer (Unit {0})
+row-answer n b p = cond b (refused n p) passed
+
 -- "tried in order, and the first that applies is the answer"; passed where none does
 unfoldable pub answer-of : List Row → Answer (Unit {0})
 answer-of [] = passed

@@ -1,1 +1,1 @@
-// What document 01 says of refusals, for any table of them; there are no functions here.
+// No functions: document 01's rules for the bytes of a log: its records, its table of refusals, its history, and what is answered of it.

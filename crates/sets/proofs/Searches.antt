@@ -1,6 +1,6 @@
 -- Laws of the searches below n, each by going through the numbers one by one: what a hit and a miss say, how to show one, and
 -- the step from n to n + 1 that a counting loop takes. Assumes nothing.
-use Prim.Native.Nat.{ℕ, zero, suc, _+_, _<_}
+use Prim.Native.Nat.{ℕ, zero, suc, _+_, _-_, _<_, _≤_}
 use native.Mathlib.Numerals.{add-one}
 use native.Mathlib.Omega.{arith}
 use mathlib.Core.Path.{_≡_, refl, sym, _∙_, ap}
@@ -165,3 +165,11 @@ module _ (p : ℕ → Bool) where
 
   pub last-found : (n : ℕ) {k : ℕ} → last-below n p ≡ some k → Last n (some k)
   last-found n e = rw e at (last-view n)
+
+  -- the step of a walk back: none from e on passes, and the one before e does not
+  pub none-back : (e k : ℕ) → 0 < e → p (e - 1) ≡ false → ((i : ℕ) → e ≤ i → i < k → p i ≡ false) → (i : ℕ) → e - 1 ≤ i → i < k → p i ≡ false
+  none-back e k l q h i m n = go (ℕ-discrete i (e - 1))
+    where
+      go : Dec (i ≡ e - 1) → p i ≡ false
+      go (yes r) = ap p r ∙ q
+      go (no r) = h i (omega (arith, l, m, r)) n

@@ -1,3 +1,4 @@
 pub mod Search
 pub mod Bits
 pub mod Paths
+pub mod Passes

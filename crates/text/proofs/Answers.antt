@@ -1,5 +1,4 @@
 -- Laws of the whole text: a verdict's records are where its text reads them, and what is printed is the text of what the verdict says.
--- Assumes nothing.
 use Prim.Native.Nat.{ℕ, _*_, _<_, _≤_}
 use native.Mathlib.Omega.{arith}
 use mathlib.Core.Path.{_≡_, refl, sym, _∙_, ap, subst}
@@ -7,13 +6,13 @@ use mathlib.Core.Bool.{Bool, true, false}
 use mathlib.Core.List.{List, _++_}
 use lib.ListN.{length, length-append}
 use lib.Seq.{sets}
-use Rattle.format.specs.Answer.{Answer, gives, refused}
-use Rattle.format.specs.Record.{transactions}
+use Rattle.rules.specs.Answer.{Answer, gives, refused}
+use Rattle.rules.specs.Record.{transactions}
 use Rattle.lines.specs.Rule.{LineOrCycle, line, cycle, members-of, length-of}
-use Rattle.verdict.specs.Verdict.{most-answer, record-size, entry, verdict-check, line-or-cycle, verdict-answer, answer-records, how-many}
-use Rattle.verdict.proofs.Checks.{sound-log, enough-room, answer-refused, answer-given}
-use Rattle.verdict.proofs.Records.{length-pairs, line-records-are, cycle-records-are}
-use Rattle.verdict.proofs.Written.{ordered-fits, in-front}
+use Rattle.answers.specs.Verdict.{most-answer, record-size, entry, verdict-check, line-or-cycle, verdict-answer, answer-records, how-many}
+use Rattle.answers.proofs.VerdictRows.{check-passes, enough-room, answer-refused, answer-given}
+use Rattle.answers.proofs.AnswerRecords.{records-long, ordered-fits}
+use Rattle.verdict.proofs.Written.{in-front}
 use Rattle.text.specs.Text.{text-room, serial-word, cycle-word, first-line, refusal-line, record-lines, printed-answer, printed-with, printed}
 use Rattle.text.specs.Kept.{Put, Recorded, Lent}
 use Rattle.text.specs.Promises.{Prints}
@@ -55,11 +54,6 @@ text-short word n reasons answer l r bytes =
       r .0,
     )
 
--- the records of a line or a cycle are two bytes each
-records-long : (log : List ℕ) (o : LineOrCycle (List ℕ)) → length (answer-records log (gives o)) ≡ length (members-of o) * record-size
-records-long log (line xs) = ap length (line-records-are xs) ∙ length-pairs (length xs) _ _
-records-long log (cycle xs) = ap length (cycle-records-are log xs) ∙ length-pairs (length xs) _ _
-
 -- the verdict on a log with a buffer of so many bytes
 module _ (log old : List ℕ) where
   abbrev room : ℕ
@@ -78,7 +72,7 @@ module _ (log old : List ℕ) where
     where
       go : (a : Answer (Unit {0})) → verdict-check log room ≡ a → P said
       go (refused n p) e = subst P (sym (answer-refused log room e)) (f n p)
-      go (gives tt) e = subst P (sym (answer-given log room e)) (g (ordered-fits log (sound-log log room e)) (enough-room log room e))
+      go (gives tt) e = subst P (sym (answer-given log room e)) (g (ordered-fits log (check-passes log room e)) (enough-room log room e))
 
   -- a line or a cycle whose records are in a buffer of that length
   lent-given : (o : LineOrCycle (List ℕ)) (answer : List ℕ) → length answer ≡ room → length (members-of o) ≤ transactions → most-answer ≤ room

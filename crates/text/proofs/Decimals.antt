@@ -1,5 +1,4 @@
 -- Laws of numbers in decimal: how many digits they have, and that `io::decimal` writes them. The only file that opens `decimal`.
--- Assumes nothing.
 use Prim.Native.Nat.{ℕ, zero, suc, _*_, _-_, _/_, _%_, _^_, _<_, _≤_}
 use native.Mathlib.Omega.{arith}
 use native.Mathlib.Nat.{mod-lt, pow-suc, div-lt-iff-lt-mul, le-div-iff-mul-le, one-le-pow, div-lt-self}

@@ -1,5 +1,5 @@
 -- The promises of src/lib.rt determine what is answered and every byte of the buffers lent, and what is in the front of the text is what is
--- printed. Assumes nothing.
+-- printed.
 use Prim.Native.Nat.{ℕ, _+_}
 use native.Mathlib.Omega.{arith}
 use mathlib.Core.Path.{_≡_, sym, _∙_, ap}

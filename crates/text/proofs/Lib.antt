@@ -3,3 +3,4 @@ pub mod Decimals
 pub mod Lines
 pub mod Answers
 pub mod Determined
+pub mod Printed

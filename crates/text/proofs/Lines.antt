@@ -1,5 +1,4 @@
 -- Laws of a text's lines: how long they are, that the records' lines are put one after another, and that they read only the records.
--- Assumes nothing.
 use Prim.Native.Nat.{ℕ, zero, suc, _+_, _*_, _^_, _<_, _≤_}
 use native.Mathlib.Omega.{arith}
 use native.Mathlib.Numerals.{add-one}
@@ -7,7 +6,7 @@ use mathlib.Core.Path.{_≡_, refl, sym, ap, ap₂}
 use mathlib.Core.Bool.{Bool, true, false}
 use mathlib.Core.List.{List, [], _++_}
 use lib.ListN.{length, length-append}
-use Rattle.verdict.specs.Verdict.{record-size, entry}
+use Rattle.answers.specs.Verdict.{record-size, entry}
 use Rattle.text.specs.Text.{space, newline, refused-word, decimal, first-line, refusal-line, record-line, record-lines, first-room, record-room}
 use Rattle.text.proofs.Decimals.{number-short, byte-short}
 

@@ -1,4 +1,4 @@
--- Laws of bytes put into a buffer: one by one, and one run after another. Assumes nothing.
+-- Laws of bytes put into a buffer: one by one, and one run after another.
 use Prim.Native.Nat.{ℕ, _+_, _<_, _≤_}
 use native.Mathlib.Omega.{arith}
 use native.Mathlib.Numerals.{add-one}

@@ -4,10 +4,10 @@ use mathlib.Core.Path.{_≡_}
 use mathlib.Core.List.{List}
 use lib.ListN.{length}
 use lib.Seq.{sets}
-use Rattle.format.specs.Answer.{Answer, gives, refused}
-use Rattle.format.specs.Record.{transactions}
+use Rattle.rules.specs.Answer.{Answer, gives, refused}
+use Rattle.rules.specs.Record.{transactions}
 use Rattle.lines.specs.Rule.{LineOrCycle, line, cycle}
-use Rattle.verdict.specs.Verdict.{record-size}
+use Rattle.answers.specs.Verdict.{record-size}
 
 -- bytes put into a buffer from place `at` on, and the place behind them
 pub record Put (old : List ℕ) (at : ℕ) (bytes new : List ℕ) (behind : ℕ) : Type 0 where

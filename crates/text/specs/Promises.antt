@@ -6,7 +6,7 @@ use mathlib.Core.List.{List}
 use lib.ListN.{length}
 use lib.Seq.{sets}
 use Rattle.verdict.specs.Numbers.{verdict-says}
-use Rattle.verdict.specs.Promises.{LeavesRecords}
+use Rattle.answers.specs.Verdict.{LeavesRecords}
 use Rattle.verdict.specs.declared.answer.Verdict.{Verdict}
 use Rattle.text.specs.Text.{text-room, printed-answer, printed-with, printed}
 

@@ -3,10 +3,10 @@ use Prim.Native.Nat.{ℕ, zero, suc, _+_, _*_, _/_, _%_}
 use mathlib.Core.Bool.{Bool, true, false, cond}
 use mathlib.Core.List.{List, [], _∷_, _++_}
 use lib.Dec.{ltb}
-use Rattle.format.specs.Answer.{Answer, gives, refused}
-use Rattle.format.specs.Record.{transactions}
+use Rattle.rules.specs.Answer.{Answer, gives, refused}
+use Rattle.rules.specs.Record.{transactions}
 use Rattle.lines.specs.Rule.{LineOrCycle, line, cycle}
-use Rattle.verdict.specs.Verdict.{record-size, most-answer, entry, verdict-answer, answer-records, how-many}
+use Rattle.answers.specs.Verdict.{record-size, most-answer, entry, verdict-answer, answer-records, how-many}
 
 -- a digit
 unfoldable pub digit : ℕ → ℕ

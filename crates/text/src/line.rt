@@ -1,8 +1,8 @@
 // The lines of an answer: the first, and one for each answer record.
 ghost use Prim.Native.Nat.{_+_, _*_, _≤_};
 ghost use lib.ListN.{length};
-ghost use Rattle.format.specs.Record.{transactions};
-ghost use Rattle.verdict.specs.Verdict.{record-size};
+ghost use Rattle.rules.specs.Record.{transactions};
+ghost use Rattle.answers.specs.Verdict.{record-size};
 ghost use Rattle.text.specs.Text.{text-room, first-room, record-room, first-line, refusal-line, record-line, record-lines};
 ghost use Rattle.text.specs.Kept.{Put};
 use crate::put::TEXT;

@@ -1,4 +1,4 @@
-pub mod Checks
-pub mod Records
+pub mod Pairs
+pub mod Along
 pub mod Written
 pub mod Determined

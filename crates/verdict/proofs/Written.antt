@@ -1,5 +1,5 @@
 -- What the code keeps is what the definitions say: the sorted table is the log's line or cycle, and what is written from the sort's
--- buffer are its records. Assumes nothing.
+-- buffer are its records.
 use Prim.Native.Nat.{ℕ, _+_, _<_, _≤_}
 use native.Mathlib.Omega.{arith}
 use mathlib.Core.Path.{_≡_, sym, _∙_, ap, ap₂, subst₂, fun-ext}
@@ -7,43 +7,27 @@ use mathlib.Core.List.{List}
 use lib.ListN.{length, getD, drop, List·getD-append}
 use lib.Seq.{sets, sets-eq}
 use Rattle.sets.specs.Bits.{numbers, has, in-row, Holds}
-use Rattle.format.specs.Answer.{gives, passed}
-use Rattle.format.specs.Record.{transactions, in-log}
-use Rattle.log.specs.Refusal.{check-answer}
-use Rattle.log.proofs.Passed.{passed-low}
-use Rattle.edges.specs.Reasons.{edge, reason, members}
-use Rattle.edges.proofs.Graphs.{members-hold}
+use Rattle.histories.specs.Reasons.{edge, reason}
+use Rattle.rules.specs.Answer.{gives}
+use Rattle.rules.specs.LogHistory.{in-log, history-of}
+use Rattle.rules.specs.Questions.{members}
+use Rattle.rules.specs.Record.{transactions}
+use Rattle.rules.specs.Passes.{Passes}
+use Rattle.rules.proofs.Graphs.{members-hold}
 use Rattle.lines.specs.Rule.{LineOrCycle, line, cycle, members-of, length-of, sorted}
-use Rattle.lines.specs.Lines.{Means}
-use Rattle.lines.proofs.Lists.{among-entry}
 use Rattle.lines.proofs.Outcomes.{line-of, cycle-of}
-use Rattle.lines.proofs.Sorts.{sorted-means, means-fit, means-within}
-use Rattle.verdict.specs.Verdict.{entry, pairs, round-to, line-or-cycle, line-records, cycle-records, answer-records}
+use Rattle.answers.specs.Verdict.{entry, pairs, round-to, line-or-cycle, line-records, cycle-records, answer-records}
 use Rattle.verdict.specs.Kept.{Low, Along}
-use Rattle.verdict.proofs.Records.{pairs-same, round-low, line-records-are, cycle-records-are}
+use Rattle.answers.proofs.AnswerRecords.{pairs-same, round-low, line-records-are, cycle-records-are, ordered-fits, ordered-low}
 
 -- a log that passes
-module _ (log : List ℕ) (sound : check-answer log ≡ passed) where
+module _ (log : List ℕ) (sound : Passes log) where
   -- by its table and its set the sort gives its line or cycle
-  pub sorted-is : (table : List ℕ) (set : ℕ) → Holds transactions (edge log) table → set ≡ members log
+  pub sorted-is : (table : List ℕ) (set : ℕ) → Holds transactions (edge (history-of log)) table → set ≡ members log
       → sorted numbers (in-row table) (has set) ≡ line-or-cycle log
   unfolding line-or-cycle
   sorted-is table set w e =
-      ap₂ (sorted numbers) (fun-ext (λ i. fun-ext (λ j. w .said i j))) (fun-ext (λ t. ap (λ (s : ℕ). has s t) e ∙ members-hold log sound t))
-
-  -- which is one, and what this means
-  pub ordered-means : Means transactions (edge log) (in-log log) (line-or-cycle log)
-  unfolding line-or-cycle
-  ordered-means = sorted-means transactions (edge log) (in-log log) (passed-low log sound)
-
-  pub ordered-fits : length (members-of (line-or-cycle log)) ≤ transactions
-  ordered-fits = means-fit transactions (edge log) (in-log log) (passed-low log sound) (line-or-cycle log) ordered-means
-
-  pub ordered-low : Low (length (members-of (line-or-cycle log))) (members-of (line-or-cycle log))
-  ordered-low k l =
-      let xs = members-of (line-or-cycle log) in
-      let within = means-within transactions (edge log) (in-log log) (passed-low log sound) (line-or-cycle log) ordered-means in
-      passed-low log sound (entry xs k) (within (entry xs k) (among-entry xs k l))
+      ap₂ (sorted numbers) (fun-ext (λ i. fun-ext (λ j. w .said i j))) (fun-ext (λ t. ap (λ (s : ℕ). has s t) e ∙ members-hold log (sound .in-limits) t))
 
 -- members that the sort has written to the front of a buffer
 module _ (xs blank : List ℕ) (fits : length xs ≤ length blank) where
@@ -60,22 +44,22 @@ module _ (xs blank : List ℕ) (fits : length xs ≤ length blank) where
       pairs-same (length xs) (entry buffer) (entry seconds) (entry xs) (λ k. 0) in-front (λ k l. none k) ∙ sym (line-records-are xs)
 
   -- the records of a cycle: the reasons do
-  pub cycle-written : (log seconds : List ℕ) (lowest : ℕ → ℕ → ℕ) → ((i j : ℕ) → lowest i j ≡ reason log i j)
+  pub cycle-written : (log seconds : List ℕ) (lowest : ℕ → ℕ → ℕ) → ((i j : ℕ) → lowest i j ≡ reason (history-of log) i j)
       → Along lowest buffer (length xs) (length xs) seconds → pairs (length xs) (entry buffer) (entry seconds) ≡ cycle-records log xs
   cycle-written log seconds lowest same w =
       pairs-same (length xs) (entry buffer) (entry seconds) (entry xs) next-reason in-front second ∙ sym (cycle-records-are log xs)
     where
       next-reason : ℕ → ℕ
-      next-reason k = reason log (entry xs k) (entry xs (round-to (length xs) k))
+      next-reason k = reason (history-of log) (entry xs k) (entry xs (round-to (length xs) k))
 
-      second : (k : ℕ) → k < length xs → entry seconds k ≡ reason log (entry xs k) (entry xs (round-to (length xs) k))
+      second : (k : ℕ) → k < length xs → entry seconds k ≡ reason (history-of log) (entry xs k) (entry xs (round-to (length xs) k))
       second k l =
           w .said k l
           ∙ ap₂ lowest (in-front k l) (in-front (round-to (length xs) k) (round-low (length xs) k l))
           ∙ same (entry xs k) (entry xs (round-to (length xs) k))
 
 -- so what is written for a log that passes are the records of its answer
-module _ (log : List ℕ) (sound : check-answer log ≡ passed) (n : ℕ) (old blank buffer seconds : List ℕ) (whole : length blank ≡ transactions)
+module _ (log : List ℕ) (sound : Passes log) (n : ℕ) (old blank buffer seconds : List ℕ) (whole : length blank ≡ transactions)
     (sorted-in : buffer ≡ sets blank 0 (members-of (line-or-cycle log)))
   where
     abbrev o : LineOrCycle (List ℕ)
@@ -99,7 +83,7 @@ module _ (log : List ℕ) (sound : check-answer log ≡ passed) (n : ℕ) (old b
         by-length (is .1)
         ∙ ap (sets old 0) (line-written xs blank fits seconds none ∙ sym (ap (λ (a : LineOrCycle (List ℕ)). answer-records log (gives a)) (is .0)))
 
-    pub cycle-answer : cycle n ≡ length-of o → (lowest : ℕ → ℕ → ℕ) → ((i j : ℕ) → lowest i j ≡ reason log i j) → Along lowest buffer n n seconds
+    pub cycle-answer : cycle n ≡ length-of o → (lowest : ℕ → ℕ → ℕ) → ((i j : ℕ) → lowest i j ≡ reason (history-of log) i j) → Along lowest buffer n n seconds
         → sets old 0 (pairs n (entry buffer) (entry seconds)) ≡ sets old 0 (answer-records log (gives o))
     cycle-answer e lowest same w =
         let is = cycle-of n o e in

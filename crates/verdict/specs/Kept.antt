@@ -3,8 +3,8 @@ use Prim.Native.Nat.{ℕ, _<_}
 use mathlib.Core.Path.{_≡_}
 use mathlib.Core.List.{List}
 use lib.ListN.{length}
-use Rattle.format.specs.Record.{transactions}
-use Rattle.verdict.specs.Verdict.{entry, round-to}
+use Rattle.rules.specs.Record.{transactions}
+use Rattle.answers.specs.Verdict.{entry, round-to}
 
 -- the first n of a buffer are transactions
 abbrev pub Low : ℕ → List ℕ → Type 0

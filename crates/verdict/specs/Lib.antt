@@ -1,4 +1,3 @@
-pub mod Verdict
 pub mod Kept
 pub mod Numbers
 pub mod Promises

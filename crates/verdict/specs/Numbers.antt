@@ -1,6 +1,6 @@
 -- What the code's verdict says, in document 01's numbers.
 use Prim.Native.Nat.{ℕ}
-use Rattle.format.specs.Answer.{Answer, gives, refused}
+use Rattle.rules.specs.Answer.{Answer, gives, refused}
 use Rattle.format.specs.Numbers.{number-of, place-of}
 use Rattle.lines.specs.Rule.{LineOrCycle, line, cycle}
 use Rattle.verdict.specs.declared.answer.Verdict.{Verdict}

@@ -3,10 +3,10 @@ ghost use mathlib.Core.Path.{_≡_};
 ghost use lib.ListN.{length};
 ghost use lib.Seq.{sets};
 ghost use Prim.Native.Nat.{_≤_};
-ghost use Rattle.format.specs.Answer.{passed, gives};
+ghost use Rattle.rules.specs.Answer.{passed, gives};
+ghost use Rattle.rules.specs.Passes.{Passes};
 ghost use Rattle.format.specs.Numbers.{checked-says};
-ghost use Rattle.log.specs.Refusal.{check-answer};
-ghost use Rattle.verdict.specs.Verdict.{most-answer, verdict-check, line-or-cycle, answer-records, how-many};
+ghost use Rattle.answers.specs.Verdict.{most-answer, verdict-check, line-or-cycle, answer-records, how-many};
 ghost use Rattle.verdict.specs.Numbers.{verdict-says};
 ghost use Rattle.verdict.specs.Promises.{JudgesLog};
 
@@ -44,7 +44,7 @@ fn checked(log: &[u8], room: usize) -> Checked
 
 // The verdict on a log that passes. The sort works in arrays of its own, so that nothing is written before the answer is whole.
 fn ordered(log: &[u8], answer: &mut [u8]) -> Verdict
-    requires { ⌜ check-answer (now log) ≡ passed ⌝ }
+    requires { ⌜ Passes (now log) ⌝ }
     requires { ⌜ most-answer ≤ length (now answer) ⌝ }
     ensures { λ r. ⌜ verdict-says r ≡ how-many (gives (line-or-cycle (now (log .entry)))) ⌝ }
     ensures { λ r. ⌜ now (answer .exit) ≡ sets (now (answer .entry)) 0 (answer-records (now (log .entry)) (gives (line-or-cycle (now (log .entry))))) ⌝ }

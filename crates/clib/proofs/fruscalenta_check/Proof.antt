@@ -1,4 +1,4 @@
--- `clib::fruscalenta_check` meets its contract: each case of the check's answer is coded as what it says. Assumes nothing.
+-- `clib::fruscalenta_check` meets its contract: each case of the check's answer is coded as what it says.
 use borrow.Author.Needs.{needs}
 use mathlib.Core.Path.{_∙_, sym, ap}
 use Rattle.format.specs.Numbers.{checked-says}

@@ -1,4 +1,4 @@
--- `clib::fruscalenta_sort` meets its contract: the sort's answer is coded as what it says, and its buffer is passed on. Assumes nothing.
+-- `clib::fruscalenta_sort` meets its contract: the sort's answer is coded as what it says, and its buffer is passed on.
 use borrow.Author.Needs.{needs}
 use mathlib.Core.Path.{_∙_, sym, ap}
 use Rattle.sort.specs.Numbers.{sorted-says}

@@ -1,4 +1,4 @@
--- `clib::fruscalenta_source_of_record` meets its contract: each case of the answer is coded as what it says. Assumes nothing.
+-- `clib::fruscalenta_source_of_record` meets its contract: each case of the answer is coded as what it says.
 use borrow.Author.Needs.{needs}
 use mathlib.Core.Path.{_∙_, sym, ap}
 use Rattle.log.specs.Numbers.{source-says}

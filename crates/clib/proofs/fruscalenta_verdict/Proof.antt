@@ -1,9 +1,8 @@
 -- `clib::fruscalenta_verdict` meets its contract: each case of the verdict is coded as what it says, and its buffer is passed on.
--- Assumes nothing.
 use borrow.Author.Needs.{needs}
 use mathlib.Core.Path.{_∙_, sym, ap, ap₂}
 use Prim.Native.Nat.{ℕ}
-use Rattle.format.specs.Answer.{refused}
+use Rattle.rules.specs.Answer.{refused}
 use Rattle.verdict.specs.Numbers.{verdict-says}
 use Rattle.clib.specs.Coding.{coded-verdict}
 use Rattle.clib.proofs.fruscalenta_verdict.Statement.{statement}

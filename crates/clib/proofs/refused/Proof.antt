@@ -1,4 +1,4 @@
--- `clib::refused` meets its contract: the number and the place are the refusal's own. Assumes nothing.
+-- `clib::refused` meets its contract: the number and the place are the refusal's own.
 use borrow.Author.Needs.{needs}
 use mathlib.Core.Path.{ap₂}
 use Rattle.clib.specs.Coding.{coded-refusal}

@@ -1,7 +1,8 @@
--- `demands::graph` meets its contract: what the graph promises of its set and its table is what the theorem asks for. Assumes nothing.
+-- `demands::graph` meets its contract: what the graph promises of its set and its table is what the theorem asks for.
 use borrow.Author.Needs.{needs}
 use denote.Ref.{now}
-use Rattle.demands.proofs.Demands.{graph-exactly}
+use Rattle.edges.specs.Numbers.{graph-says}
+use Rattle.answers.proofs.Demands.{graph-exactly}
 use Rattle.demands.proofs.graph.Statement.{statement}
 use Rattle.demands.proofs.graph.Tie as tie
 
@@ -12,7 +13,7 @@ returns : tie.Need-returns
 returns c =
     let s = c .before .before .before in
     let promised = c .graph-of-log .ensures in
-    (promised, graph-exactly (now (s .args .log)) (now (s .args .table)) (c .graph-of-log .result) (c .graph-of-log .last .1 .0) promised)
+    (promised, graph-exactly (now (s .args .log)) (now (s .args .table)) (graph-says (c .graph-of-log .result)) (c .graph-of-log .last .1 .0) promised)
 
 pub graph-spec : {M : Type 1} → statement M
 graph-spec = tie.close (tie.spec graph-of-log-requires returns)

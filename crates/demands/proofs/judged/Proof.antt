@@ -1,8 +1,9 @@
 -- `demands::judged` meets its contract: what the verdict promises of its answer and its buffer is what the theorems of the three demands
--- ask for. Assumes nothing.
+-- ask for.
 use borrow.Author.Needs.{needs}
 use denote.Ref.{now}
-use Rattle.demands.proofs.Demands.{demand-1, demand-2, demand-3}
+use Rattle.verdict.specs.Numbers.{verdict-says}
+use Rattle.answers.proofs.Demands.{demand-1, demand-2, demand-3}
 use Rattle.demands.proofs.judged.Statement.{statement}
 use Rattle.demands.proofs.judged.Tie as tie
 
@@ -18,7 +19,7 @@ returns c =
     let s = a .before .before .before .before in
     let log = now (s .args .log) in
     let old = now (s .args .answer) in
-    let v = a .verdict .result in
+    let v = verdict-says (a .verdict .result) in
     let new = a .verdict .last .1 .0 in
     let promised = a .verdict .ensures in
     (promised, (demand-1 log old v new promised, (demand-2 log old v new promised, demand-3 log old v new promised)))

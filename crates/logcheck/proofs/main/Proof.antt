@@ -1,4 +1,4 @@
--- `logcheck::main` meets its contract: what was read is within its buffer. Assumes nothing.
+-- `logcheck::main` meets its contract: what was read is within its buffer.
 use Prim.Native.Nat.{_≤_}
 use mathlib.Core.Path.{sym, subst}
 use lib.ListN.{length}

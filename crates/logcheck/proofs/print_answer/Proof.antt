@@ -1,4 +1,4 @@
--- `logcheck::print_answer` meets its contract: the text is within its buffer. Assumes nothing.
+-- `logcheck::print_answer` meets its contract: the text is within its buffer.
 use Prim.Native.Nat.{ℕ, _≤_}
 use mathlib.Core.Path.{sym}
 use lib.ListN.{length, replicate, length-replicate}

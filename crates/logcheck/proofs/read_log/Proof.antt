@@ -1,4 +1,4 @@
--- `logcheck::read_log` meets its contract. The invariant: n is within the buffer, which keeps its length. Assumes nothing.
+-- `logcheck::read_log` meets its contract. The invariant: n is within the buffer, which keeps its length.
 use borrow.Author.Needs.{needs}
 use Prim.Native.Nat.{_-_, _≤_}
 use mathlib.Core.Path.{_≡_}

@@ -1,5 +1,4 @@
 -- `text::answer_text` meets its contract: each case of the verdict has its own first line, and a line and a cycle have their records behind it.
--- Assumes nothing.
 use Prim.Native.Nat.{ℕ, _≤_}
 use native.Mathlib.Omega.{arith}
 use mathlib.Core.Path.{_≡_, sym, _∙_, ap, ap₂, subst}

@@ -1,15 +1,14 @@
 -- `text::judged_text` meets its contract: the text of what the verdict says, with its records in the buffer, is what is printed.
--- Assumes nothing.
 use mathlib.Core.Path.{_≡_, sym, _∙_, ap, ap₂, subst}
 use mathlib.Core.List.{List}
 use Prim.Native.Nat.{ℕ}
 use lib.ListN.{length}
 use lib.Seq.{length-sets}
 use denote.Ref.{now}
-use Rattle.format.specs.Answer.{Answer}
+use Rattle.rules.specs.Answer.{Answer}
 use Rattle.lines.specs.Rule.{LineOrCycle}
 use Rattle.verdict.specs.Numbers.{verdict-says}
-use Rattle.verdict.specs.Verdict.{verdict-answer, answer-records}
+use Rattle.answers.specs.Verdict.{verdict-answer, answer-records}
 use Rattle.text.specs.Text.{printed-answer, printed-with}
 use Rattle.text.specs.Kept.{Lent}
 use Rattle.text.proofs.Answers.{lent, judged, prints-same}

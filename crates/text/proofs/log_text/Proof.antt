@@ -1,4 +1,4 @@
--- `text::log_text` meets its contract: the buffer that it lends has room for any answer. Assumes nothing.
+-- `text::log_text` meets its contract: the buffer that it lends has room for any answer.
 use Prim.Native.Nat.{ℕ}
 use lib.ListN.{length, replicate, length-replicate}
 use denote.Ref.{now}

@@ -1,4 +1,4 @@
--- `trial::print_answer` meets its contract: the text is within its buffer. Assumes nothing.
+-- `trial::print_answer` meets its contract: the text is within its buffer.
 use Prim.Native.Nat.{ℕ, _≤_}
 use mathlib.Core.Path.{sym}
 use lib.ListN.{length, replicate, length-replicate}

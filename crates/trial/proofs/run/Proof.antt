@@ -1,4 +1,4 @@
--- `trial::run` meets its contract. The invariant: the logs before `at` are whole, and there are no more of them than bytes. Assumes nothing.
+-- `trial::run` meets its contract. The invariant: the logs before `at` are whole, and there are no more of them than bytes.
 use borrow.Author.Needs.{needs}
 use Prim.Native.Nat.{_-_, _≤_}
 use mathlib.Core.Path.{_≡_, sym}

@@ -1,14 +1,14 @@
--- `verdict::checked` meets its contract: the length's refusal, then number 3, then the content's. Assumes nothing.
+-- `verdict::checked` meets its contract: the length's refusal, then number 3, then the content's.
 use borrow.Author.Needs.{needs}
 use mathlib.Core.Path.{_≡_, sym, _∙_, ap}
 use mathlib.Core.List.{List}
 use Prim.Native.Nat.{ℕ}
 use denote.Ref.{now}
 use native.Mathlib.Omega.{arith}
-use Rattle.format.specs.Answer.{passed}
+use Rattle.rules.specs.Answer.{passed}
+use Rattle.rules.specs.Refusals.{length-answer}
 use Rattle.format.specs.Numbers.{checked-says}
-use Rattle.log.specs.Refusal.{length-answer}
-use Rattle.verdict.proofs.Checks.{short, roomy, by-length, by-room, by-content}
+use Rattle.answers.proofs.VerdictRows.{short, roomy, by-length, by-room, by-content}
 use Rattle.verdict.proofs.checked.Statement.{statement}
 use Rattle.verdict.proofs.checked.Tie as tie
 
@@ -23,7 +23,8 @@ returns c =
     let a = c .before .before in
     let log = now (a .before .before .args .log) in
     let said = a .length-answer .ensures in
-    said ∙ sym (by-length log (a .before .before .args .room) (sym said ∙ ap checked-says (c .enum-told .given .1)))
+    let is-refused = ap checked-says (c .enum-told .given .1) in
+    is-refused ∙ sym (by-length log (a .before .before .args .room) _ _ (sym said ∙ is-refused))
 
 enum-told-2 : tie.Need-enum-told-2
 enum-told-2 c = search needs

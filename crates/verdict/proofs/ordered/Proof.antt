@@ -1,5 +1,5 @@
 -- `verdict::ordered` meets its contract: the tables of the three reasons, joined, are the log's edges, so the sort gives the log's line or
--- cycle; what is then written are its records. Assumes nothing.
+-- cycle; what is then written are its records.
 use borrow.Author.Needs.{needs}
 use native.Mathlib.Omega.{arith}
 use mathlib.Core.Path.{_≡_, sym, _∙_, ap}
@@ -10,17 +10,19 @@ use lib.Seq.{sets}
 use denote.Ref.{now}
 use Rattle.sets.specs.Bits.{numbers, has, in-row, Holds}
 use Rattle.sets.proofs.Tables.{empty-entry}
-use Rattle.format.specs.Answer.{gives, passed}
-use Rattle.format.specs.Record.{transactions}
-use Rattle.log.specs.Refusal.{check-answer}
-use Rattle.edges.specs.Reasons.{edge, reason}
+use Rattle.histories.specs.Reasons.{edge, reason}
+use Rattle.rules.specs.Answer.{gives}
+use Rattle.rules.specs.Record.{transactions}
+use Rattle.rules.specs.Passes.{Passes}
+use Rattle.rules.specs.LogHistory.{history-of}
 use Rattle.edges.specs.Table.{lowest-in}
-use Rattle.edges.proofs.Graphs.{joined-whole, lowest-whole}
+use Rattle.edges.proofs.EdgeTables.{joined-whole, lowest-whole}
 use Rattle.lines.specs.Rule.{LineOrCycle, line, cycle, members-of, length-of, sorted}
 use Rattle.sort.specs.Numbers.{sorted-says}
 use Rattle.lines.proofs.Outcomes.{line-of, cycle-of}
-use Rattle.verdict.specs.Verdict.{line-or-cycle}
-use Rattle.verdict.proofs.Written.{sorted-is, ordered-fits, line-answer, cycle-answer, first-low}
+use Rattle.answers.specs.Verdict.{line-or-cycle}
+use Rattle.verdict.proofs.Written.{sorted-is, line-answer, cycle-answer, first-low}
+use Rattle.answers.proofs.AnswerRecords.{ordered-fits}
 use Rattle.verdict.proofs.ordered.Statement.{statement}
 use Rattle.verdict.proofs.ordered.Tie as tie
 
@@ -50,7 +52,7 @@ module _ (c : tie.After-sort) where
   abbrev log-of : List ℕ
   log-of = now (start .args .log)
 
-  sound : check-answer log-of ≡ passed
+  sound : Passes log-of
   sound = start .pre .0
 
   -- the tables of the reasons, and what is asked of them
@@ -66,7 +68,7 @@ module _ (c : tie.After-sort) where
   abbrev lowest : ℕ → ℕ → ℕ
   lowest = lowest-in by-conflict by-order by-read
 
-  lowest-is : (i j : ℕ) → lowest i j ≡ reason log-of i j
+  lowest-is : (i j : ℕ) → lowest i j ≡ reason (history-of log-of) i j
   lowest-is =
       let said = at-edges .edges-by-reason .ensures in
       lowest-whole log-of by-conflict by-order by-read (said .1 .0) (said .1 .1 .0) (said .1 .1 .1)
@@ -75,7 +77,7 @@ module _ (c : tie.After-sort) where
   abbrev table-of-all : List ℕ
   table-of-all = at-joined .joined .last .1 .1 .1 .0
 
-  is-table : Holds transactions (edge log-of) table-of-all
+  is-table : Holds transactions (edge (history-of log-of)) table-of-all
   is-table =
       let said = at-edges .edges-by-reason .ensures in
       joined-whole log-of by-conflict by-order by-read (said .1 .0) (said .1 .1 .0) (said .1 .1 .1) (at-joined .joined .ensures)

@@ -1,5 +1,4 @@
 -- `verdict::verdict` meets its contract: a refusal is passed on before the buffer is touched, and else the log's line or cycle is given.
--- Assumes nothing.
 use borrow.Author.Needs.{needs}
 use mathlib.Core.Path.{_≡_, sym, _∙_, ap}
 use mathlib.Core.List.{List}
@@ -7,11 +6,11 @@ use Prim.Native.Nat.{ℕ}
 use lib.ListN.{length}
 use lib.Seq.{sets}
 use denote.Ref.{now}
-use Rattle.format.specs.Answer.{Answer, gives, passed}
+use Rattle.rules.specs.Answer.{Answer, gives, passed}
 use Rattle.format.specs.Numbers.{checked-says}
 use Rattle.lines.specs.Rule.{LineOrCycle}
-use Rattle.verdict.specs.Verdict.{verdict-check, line-or-cycle, verdict-answer, answer-records, how-many}
-use Rattle.verdict.proofs.Checks.{sound-log, enough-room, answer-refused, answer-given}
+use Rattle.answers.specs.Verdict.{verdict-check, line-or-cycle, verdict-answer, answer-records, how-many}
+use Rattle.answers.proofs.VerdictRows.{check-passes, enough-room, answer-refused, answer-given}
 use Rattle.verdict.proofs.verdict.Statement.{statement}
 use Rattle.verdict.proofs.verdict.Tie as tie
 
@@ -50,7 +49,7 @@ ordered-requires : tie.Need-ordered-requires
 ordered-requires c κs =
     let e = c .before in
     let s = start e in
-    (sound-log (log-of s) (length (old s)) (checks-pass e), enough-room (log-of s) (length (old s)) (checks-pass e))
+    (check-passes (log-of s) (length (old s)) (checks-pass e), enough-room (log-of s) (length (old s)) (checks-pass e))
 
 returns : tie.Need-returns
 returns c =

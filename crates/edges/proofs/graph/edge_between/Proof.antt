@@ -1,14 +1,14 @@
 -- `edges::graph::edge_between` meets its contract: the check's refusal is passed on, then 10 is tried, and then the reason is given.
--- Assumes nothing.
 use borrow.Author.Needs.{needs}
 use mathlib.Core.Path.{_≡_, _∙_, sym, ap}
 use mathlib.Core.List.{List}
 use Prim.Native.Nat.{ℕ}
 use denote.Ref.{now}
-use Rattle.format.specs.Answer.{gives, passed}
+use Rattle.rules.specs.Answer.{gives, passed}
+use Rattle.rules.specs.Refusals.{check-answer}
+use Rattle.rules.proofs.PassedLogs.{passed-passes}
+use Rattle.rules.proofs.Asked.{edge-refused, edge-from-none, edge-to-none, edge-given}
 use Rattle.format.specs.Numbers.{checked-says}
-use Rattle.log.specs.Refusal.{check-answer}
-use Rattle.edges.proofs.Questions.{edge-refused, edge-from-none, edge-to-none, edge-given}
 use Rattle.edges.proofs.graph.edge_between.Statement.{statement}
 use Rattle.edges.proofs.graph.edge_between.Tie as tie
 
@@ -43,7 +43,7 @@ returns-2 c =
     sym (edge-to-none (log-of e) (at-start e .args .i) (at-start e .args .j) (sound e) (c .if2 .taken))
 
 reason-between-requires : tie.Need-reason-between-requires
-reason-between-requires c κs = (sound (c .before .before), (c .before .if1 .left, c .if2 .left))
+reason-between-requires c κs = (passed-passes (log-of (c .before .before)) (sound (c .before .before)), (c .before .if1 .left, c .if2 .left))
 
 returns-3 : tie.Need-returns-3
 returns-3 c =

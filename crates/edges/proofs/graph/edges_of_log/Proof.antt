@@ -1,8 +1,9 @@
 -- `edges::graph::edges_of_log` meets its contract: joined, the tables of the three reasons are the table of every edge, which is the
--- only one. Assumes nothing.
+-- only one.
 use borrow.Author.Needs.{needs}
 use denote.Ref.{now}
-use Rattle.edges.proofs.Graphs.{joined-whole, only-edges}
+use Rattle.rules.proofs.Graphs.{only-edges}
+use Rattle.edges.proofs.EdgeTables.{joined-whole}
 use Rattle.edges.proofs.graph.edges_of_log.Statement.{statement}
 use Rattle.edges.proofs.graph.edges_of_log.Tie as tie
 
@@ -18,7 +19,7 @@ returns c = let at-reasons = c .before .before .before .before .before in
     let log = now (s .args .log) in
     let said = at-reasons .edges-by-reason .ensures in
     let left = at-reasons .edges-by-reason .last .1 in
-    (said .0, only-edges log (s .pre) (joined-whole log (left .0) (left .1 .0) (left .1 .1 .0) (said .1 .0) (said .1 .1 .0) (said .1 .1 .1) (c .joined .ensures)))
+    (said .0, only-edges log (s .pre .in-limits) (joined-whole log (left .0) (left .1 .0) (left .1 .1 .0) (said .1 .0) (said .1 .1 .0) (said .1 .1 .1) (c .joined .ensures)))
 
 pub edges-of-log-spec : {M : Type 1} → statement M
 edges-of-log-spec = tie.close (tie.spec edges-by-reason-requires joined-requires returns)

@@ -1,13 +1,14 @@
--- `edges::graph::graph_of_log` meets its contract: the check's refusal is passed on before the table is touched. Assumes nothing.
+-- `edges::graph::graph_of_log` meets its contract: the check's refusal is passed on before the table is touched.
 use borrow.Author.Needs.{needs}
 use mathlib.Core.Path.{_≡_, refl, _∙_, sym, ap}
 use mathlib.Core.List.{List}
 use Prim.Native.Nat.{ℕ}
 use denote.Ref.{now}
-use Rattle.format.specs.Answer.{gives, passed}
+use Rattle.rules.specs.Answer.{gives, passed}
+use Rattle.rules.specs.Refusals.{check-answer}
+use Rattle.rules.proofs.PassedLogs.{passed-passes}
+use Rattle.rules.proofs.Asked.{graph-refused, graph-given}
 use Rattle.format.specs.Numbers.{checked-says}
-use Rattle.log.specs.Refusal.{check-answer}
-use Rattle.edges.proofs.Questions.{graph-refused, graph-given}
 use Rattle.edges.proofs.graph.graph_of_log.Statement.{statement}
 use Rattle.edges.proofs.graph.graph_of_log.Tie as tie
 
@@ -29,7 +30,7 @@ enum-told : tie.Need-enum-told
 enum-told c = search needs
 
 edges-of-log-requires : tie.Need-edges-of-log-requires
-edges-of-log-requires c κs = sound (c .before)
+edges-of-log-requires c κs = passed-passes (log-of (c .before)) (sound (c .before))
 
 returns : tie.Need-returns
 returns c = let at-check = c .before .before .before in

@@ -1,8 +1,8 @@
--- `edges::graph::reason_between` meets its contract: the lowest in the tables of the three reasons. Assumes nothing.
+-- `edges::graph::reason_between` meets its contract: the lowest in the tables of the three reasons.
 use borrow.Author.Needs.{needs}
 use mathlib.Core.Path.{_∙_}
 use denote.Ref.{now}
-use Rattle.edges.proofs.Graphs.{lowest-whole}
+use Rattle.edges.proofs.EdgeTables.{lowest-whole}
 use Rattle.edges.proofs.graph.reason_between.Statement.{statement}
 use Rattle.edges.proofs.graph.reason_between.Tie as tie
 

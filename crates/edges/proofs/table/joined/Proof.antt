@@ -1,4 +1,4 @@
--- `edges::table::joined` meets its contract. The invariant: the first i rows are joined. Assumes nothing.
+-- `edges::table::joined` meets its contract. The invariant: the first i rows are joined.
 use borrow.Author.Needs.{needs}
 use native.Mathlib.Omega.{arith}
 use mathlib.Core.Path.{_≡_, _∙_, ap, subst}
@@ -9,9 +9,9 @@ use denote.Ref.{now}
 use Rattle.sets.specs.Bits.{in-row}
 use Rattle.sets.proofs.Truth.{and-swap}
 use Rattle.sets.proofs.Tables.{RowsBelow, rows-none, rows-more, rows-all}
-use Rattle.format.specs.Record.{transactions}
+use Rattle.rules.specs.Record.{transactions}
 use Rattle.edges.specs.Table.{any-reason}
-use Rattle.edges.proofs.Graphs.{past-all}
+use Rattle.edges.proofs.EdgeTables.{past-all}
 use Rattle.edges.proofs.table.joined.Statement.{statement}
 use Rattle.edges.proofs.table.joined.Tie as tie
 

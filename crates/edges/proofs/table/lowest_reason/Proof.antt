@@ -1,4 +1,4 @@
--- `edges::table::lowest_reason` meets its contract: the reasons are tried from the lowest. Assumes nothing.
+-- `edges::table::lowest_reason` meets its contract: the reasons are tried from the lowest.
 use borrow.Author.Needs.{needs}
 use mathlib.Core.Path.{_≡_, refl, _∙_, sym}
 use mathlib.Core.Bool.{false}

@@ -3,7 +3,7 @@
 use borrow.Author.Needs.{needs}
 use borrow.Author.Tests.{lt-ltb, le-ltb, eq-eqb, ne-eqb}
 use native.Mathlib.Omega.{arith}
-use Rattle.format.proofs.Forms.{access-form, commit-form, no-form}
+use Rattle.rules.proofs.Forms.{access-form, commit-form, no-form}
 use Rattle.format.proofs.form.form_answer.Statement.{statement}
 use Rattle.format.proofs.form.form_answer.Tie as tie
 

@@ -2,7 +2,7 @@
 -- Assumes nothing.
 use borrow.Author.Needs.{needs}
 use mathlib.Core.Path.{_∙_, ap₂}
-use Rattle.format.specs.Record.{copy-number, copy-of}
+use Rattle.rules.specs.Record.{copy-number, copy-of}
 use Rattle.format.proofs.record.copy_at.Statement.{statement}
 use Rattle.format.proofs.record.copy_at.Tie as tie
 

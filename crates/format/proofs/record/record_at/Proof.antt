@@ -2,7 +2,7 @@
 -- Assumes nothing.
 use borrow.Author.Needs.{needs}
 use native.Mathlib.Omega.{arith}
-use Rattle.format.specs.Record.{kind, transaction, item, site, records}
+use Rattle.rules.specs.Record.{kind, transaction, item, site, records}
 use Rattle.format.proofs.record.record_at.Statement.{statement}
 use Rattle.format.proofs.record.record_at.Tie as tie
 

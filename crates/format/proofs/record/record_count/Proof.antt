@@ -1,6 +1,6 @@
 -- `format::record::record_count` meets its contract: the code is the definition. Assumes nothing.
 use borrow.Author.Needs.{needs}
-use Rattle.format.specs.Record.{records}
+use Rattle.rules.specs.Record.{records}
 use Rattle.format.proofs.record.record_count.Statement.{statement}
 use Rattle.format.proofs.record.record_count.Tie as tie
 

@@ -1,11 +1,9 @@
 -- `log::check::check` meets its contract: a refusal by the length is the answer, and without one the content's is.
--- Assumes nothing.
 use borrow.Author.Needs.{needs}
 use mathlib.Core.Path.{_∙_, sym, ap}
 use denote.Ref.{now}
 use Rattle.format.specs.Numbers.{checked-says}
-use Rattle.format.proofs.Answers.{passed-then, refused-then}
-use Rattle.log.specs.Refusal.{length-answer, content-answer, check-answer}
+use Rattle.rules.proofs.Table.{check-length, check-content}
 use Rattle.log.proofs.check.check.Statement.{statement}
 use Rattle.log.proofs.check.check.Tie as tie
 
@@ -16,12 +14,12 @@ enum-told : tie.Need-enum-told
 enum-told c = search needs
 
 returns : tie.Need-returns
-unfolding check-answer
 returns c =
     let a = c .before .before in
     let log = now (a .before .before .args .log) in
     let said = a .length-answer .ensures in
-    said ∙ sym (refused-then (length-answer log) (content-answer log) (sym said ∙ ap checked-says (c .enum-told .given .1)))
+    let is-refused = ap checked-says (c .enum-told .given .1) in
+    is-refused ∙ sym (check-length log _ _ (sym said ∙ is-refused))
 
 enum-told-2 : tie.Need-enum-told-2
 enum-told-2 c = search needs
@@ -30,12 +28,11 @@ content-answer-requires : tie.Need-content-answer-requires
 content-answer-requires c κs = search needs
 
 returns-2 : tie.Need-returns-2
-unfolding check-answer
 returns-2 c =
     let a = c .before .before .before in
     let log = now (a .before .before .args .log) in
     c .content-answer .ensures
-    ∙ sym (passed-then (length-answer log) (content-answer log) (sym (a .length-answer .ensures) ∙ ap checked-says (c .before .enum-told2 .given .1)))
+    ∙ sym (check-content log (sym (a .length-answer .ensures) ∙ ap checked-says (c .before .enum-told2 .given .1)))
 
 pub check-spec : {M : Type 1} → statement M
 check-spec =

@@ -1,25 +1,28 @@
 -- `log::check::content_answer` meets its contract. The invariant: the first k records have passed, and what is kept is what has
--- happened before record k. Assumes nothing.
+-- happened before record k.
 use borrow.Author.Needs.{needs}
 use native.Mathlib.Omega.{arith}
-use mathlib.Core.Path.{_≡_, _∙_, sym, ap}
+use mathlib.Core.Path.{_≡_, _∙_, sym, ap, subst}
 use mathlib.Core.List.{List}
 use Prim.Native.Nat.{ℕ, _<_, _≤_, _-_, _*_}
 use denote.Ref.{now}
-use Rattle.format.specs.Answer.{passed}
-use Rattle.format.specs.Record.{Within, items, sites, records, writes-copy, writes-item}
+use Rattle.histories.specs.History.{writes-copy, writes-item}
+use Rattle.rules.specs.Answer.{passed}
+use Rattle.rules.specs.LogHistory.{history-of}
+use Rattle.rules.specs.Record.{Within, items, sites, records}
+use Rattle.rules.specs.Refusals.{record-rows}
+use Rattle.rules.specs.Rows.{answer-of, over}
+use Rattle.rules.proofs.Rows.{over-zero, over-step}
+use Rattle.rules.proofs.Table.{within-passed, content-refused, content-ends}
 use Rattle.format.specs.Numbers.{checked-says}
-use Rattle.log.specs.Refusal.{record-answer, records-answer}
 use Rattle.log.specs.Kept.{KeptCopies, KeptItems, KeptCommits, KeptNames}
-use Rattle.log.proofs.Steps.{writers-start, commits-start, names-start}
-use Rattle.log.proofs.Records.{within-passed}
-use Rattle.log.proofs.Records.{no-records, one-more, content-refused, content-ends}
+use Rattle.log.proofs.Keeping.{writers-start, commits-start, names-start}
 use Rattle.log.proofs.check.content_answer.Statement.{statement}
 use Rattle.log.proofs.check.content_answer.Tie as tie
 
 abbrev Inv-loop : tie.InvT-loop
 Inv-loop log copy-writers₀ item-writers₀ firsts₀ named₀ committed₀ n k₀ copy-writers item-writers firsts named committed k =
-    (k ≤ n) × (records-answer log k ≡ passed) × KeptCopies log k copy-writers × KeptItems log k item-writers × KeptNames log k named firsts × KeptCommits log k committed
+    (k ≤ n) × (answer-of (over (record-rows log) k) ≡ passed) × KeptCopies log k copy-writers × KeptItems log k item-writers × KeptNames log k named firsts × KeptCommits log k committed
 
 abbrev μ-loop : tie.MeasureT-loop
 μ-loop log copy-writers₀ item-writers₀ firsts₀ named₀ committed₀ n k₀ copy-writers item-writers firsts named committed k = n - k
@@ -30,7 +33,7 @@ record-count-requires c κs = search needs
 loop-holds : tie.Need-loop-holds Inv-loop μ-loop
 loop-holds c =
     let log = now (c .before .before .args .log) in
-    (omega arith, no-records log, writers-start log (writes-copy log) (items * sites), writers-start log (writes-item log) items, names-start log, commits-start log)
+    (omega arith, over-zero (record-rows log), writers-start log (writes-copy (history-of log)) (items * sites), writers-start log (writes-item (history-of log)) items, names-start log, commits-start log)
 
 -- in a turn
 module _ (c : tie.In-loop Inv-loop μ-loop) where
@@ -48,7 +51,7 @@ module _ (c : tie.After-enum-told2 Inv-loop μ-loop) where
   abbrev turn : tie.In-loop Inv-loop μ-loop
   turn = c .before .before .before .before .before
 
-  passes : record-answer (log turn) (k turn) ≡ passed
+  passes : answer-of (record-rows (log turn) (k turn)) ≡ passed
   passes = sym (c .before .before .record-answer .ensures) ∙ ap checked-says (c .enum-told2 .given .1)
 
   right : Within (log turn) (k turn)
@@ -68,7 +71,7 @@ returns c =
     let a = c .before .before in
     let e = a .before .before .before in
     let is-refused = ap checked-says (c .enum-told .given .1) in
-    is-refused ∙ sym (content-refused (log e) (k e) (there e) (e .before .loop .inv .1) (sym (a .record-answer .ensures) ∙ is-refused))
+    is-refused ∙ sym (content-refused (log e) (k e) _ _ (there e) (e .before .loop .inv .1) (sym (a .record-answer .ensures) ∙ is-refused))
 
 enum-told-2 : tie.Need-enum-told-2 Inv-loop μ-loop
 enum-told-2 c = search needs
@@ -103,7 +106,7 @@ loop-again c =
     let e = at-write .before .before .before in
     let t = turn e in (
       omega (arith, t .loop-test .taken),
-      one-more (log t) (k t) (t .before .loop .inv .1) (passes e),
+      over-step (record-rows (log t)) (k t) (t .before .loop .inv .1) (passes e),
       at-write .keep-write .ensures .0,
       at-write .keep-write .ensures .1,
       at-first .keep-first .ensures,
@@ -120,8 +123,13 @@ module _ (c : tie.After-loop Inv-loop μ-loop) where
 
 end-answer-requires : tie.Need-end-answer-requires Inv-loop μ-loop
 end-answer-requires c κs =
-    let inv = c .before .before .loop .inv in
-    rw (← at-end (c .before)) (inv .4, inv .5)
+    let l = c .before .before in
+    let a = l .before .before .before .args in
+    let inv = l .loop .inv in
+    let log = now (a .log) in (
+      subst (λ (n : ℕ). KeptNames log n (l .loop .named) (l .loop .firsts)) (at-end (c .before)) (inv .4),
+      subst (λ (n : ℕ). KeptCommits log n (l .loop .committed)) (at-end (c .before)) (inv .5),
+    )
 
 returns-2 : tie.Need-returns-2 Inv-loop μ-loop
 returns-2 c =

@@ -1,5 +1,5 @@
 -- `log::check::end_answer` meets its contract: where the two sets are one nobody is left, and else the transactions are taken from
--- the lowest. The invariant: each one below t has committed if it is named. Assumes nothing.
+-- the lowest. The invariant: each one below t has committed if it is named.
 use borrow.Author.Tests.{not-true, not-false}
 use native.Mathlib.Omega.{arith}
 use mathlib.Core.Path.{_≡_, _∙_, sym, ap, ap₂}
@@ -9,9 +9,9 @@ use Prim.Native.Nat.{ℕ, _<_, _≤_, _-_}
 use denote.Ref.{now}
 use Rattle.sets.specs.Bits.{has}
 use Rattle.sets.proofs.Searches.{none-zero, none-more}
-use Rattle.format.specs.Record.{transactions}
-use Rattle.log.specs.Refusal.{never-commits}
-use Rattle.log.proofs.Ends.{all-commit, never-kept, same-sets, open-at}
+use Rattle.rules.specs.Record.{transactions}
+use Rattle.rules.specs.Refusals.{never-commits}
+use Rattle.log.proofs.EndKept.{all-commit, never-kept, same-sets, open-at}
 use Rattle.log.proofs.check.end_answer.Statement.{statement}
 use Rattle.log.proofs.check.end_answer.Tie as tie
 

@@ -1,7 +1,7 @@
--- `log::check::length_answer` meets its contract: its two tests are those of numbers 1 and 2. Assumes nothing.
+-- `log::check::length_answer` meets its contract: its two tests are those of numbers 1 and 2.
 use mathlib.Core.Path.{sym}
 use denote.Ref.{now}
-use Rattle.log.proofs.Lengths.{gives-1, gives-2, gives-neither}
+use Rattle.rules.proofs.Lengths.{gives-1, gives-2, gives-neither}
 use Rattle.log.proofs.check.length_answer.Statement.{statement}
 use Rattle.log.proofs.check.length_answer.Tie as tie
 

@@ -1,13 +1,14 @@
 -- `log::kept::history_answer` meets its contract: number 6 is one look at a set, and 7 and 8 are asked of reads alone.
--- Assumes nothing.
 use borrow.Author.Needs.{needs}
 use mathlib.Core.Path.{_≡_, _∙_, sym}
 use mathlib.Core.List.{List}
 use Prim.Native.Nat.{ℕ}
 use denote.Ref.{now}
-use Rattle.format.proofs.KindBytes.{byte-is, byte-is-not, read-byte}
-use Rattle.log.specs.Refusal.{after-commit}
-use Rattle.log.proofs.Histories.{gives-6, skips-6, after-kept, other-passes}
+use Rattle.histories.specs.Checked.{after-commit}
+use Rattle.rules.specs.LogHistory.{history-of}
+use Rattle.rules.proofs.KindBytes.{byte-is, byte-is-not, read-byte}
+use Rattle.rules.proofs.Table.{gives-6, skips-6, other-passes}
+use Rattle.log.proofs.TestsKept.{after-kept}
 use Rattle.log.proofs.kept.history_answer.Statement.{statement}
 use Rattle.log.proofs.kept.history_answer.Tie as tie
 
@@ -19,7 +20,7 @@ module _ (c : tie.After-has-member) where
   abbrev k : ℕ
   k = c .before .before .before .args .k
 
-  said-6 : c .has-member .result ≡ after-commit log k
+  said-6 : c .has-member .result ≡ after-commit (history-of log) k
   said-6 =
       let s = c .before .before .before in
       c .has-member .ensures
@@ -32,7 +33,7 @@ has-member-requires : tie.Need-has-member-requires
 has-member-requires c κs = search needs
 
 returns : tie.Need-returns
-returns c = sym (gives-6 (log (c .before)) (k (c .before)) (sym (said-6 (c .before)) ∙ c .if1 .taken))
+returns c = sym (gives-6 (history-of (log (c .before))) (k (c .before)) (sym (said-6 (c .before)) ∙ c .if1 .taken))
 
 kind-at-requires : tie.Need-kind-at-requires
 kind-at-requires c κs = search needs
@@ -46,13 +47,13 @@ read-answer-requires c κs =
 returns-2 : tie.Need-returns-2
 returns-2 c =
     let e = c .before .before .before .before in
-    c .read-answer .ensures ∙ sym (skips-6 (log e) (k e) (sym (said-6 e) ∙ c .before .before .before .if1 .left))
+    c .read-answer .ensures ∙ sym (skips-6 (history-of (log e)) (k e) (sym (said-6 e) ∙ c .before .before .before .if1 .left))
 
 returns-3 : tie.Need-returns-3
 returns-3 c =
     let e = c .before .before .before in
-    sym (skips-6 (log e) (k e) (sym (said-6 e) ∙ c .before .before .if1 .left)
-    ∙ other-passes (log e) (k e) (byte-is-not (read-byte (log e) (k e)) (c .before .kind-at .ensures) (c .if2 .left)))
+    sym (skips-6 (history-of (log e)) (k e) (sym (said-6 e) ∙ c .before .before .if1 .left)
+    ∙ other-passes (history-of (log e)) (k e) (byte-is-not (read-byte (log e) (k e)) (c .before .kind-at .ensures) (c .if2 .left)))
 
 pub history-answer-spec : {M : Type 1} → statement M
 history-answer-spec =

@@ -1,8 +1,8 @@
--- `log::kept::keep_commit` meets its contract: a commit adds its transaction, and no other record does. Assumes nothing.
+-- `log::kept::keep_commit` meets its contract: a commit adds its transaction, and no other record does.
 use borrow.Author.Needs.{needs}
 use denote.Ref.{now}
-use Rattle.format.proofs.KindBytes.{byte-is, byte-is-not, commit-byte}
-use Rattle.log.proofs.Steps.{commits-add, commits-stay}
+use Rattle.rules.proofs.KindBytes.{byte-is, byte-is-not, commit-byte}
+use Rattle.log.proofs.Keeping.{commits-add, commits-stay}
 use Rattle.log.proofs.kept.keep_commit.Statement.{statement}
 use Rattle.log.proofs.kept.keep_commit.Tie as tie
 

@@ -1,8 +1,8 @@
--- `log::kept::keep_first` meets its contract: a transaction is added with its place where it is new. Assumes nothing.
+-- `log::kept::keep_first` meets its contract: a transaction is added with its place where it is new.
 use borrow.Author.Needs.{needs}
 use mathlib.Core.Path.{_∙_, sym}
 use denote.Ref.{now}
-use Rattle.log.proofs.Steps.{names-add, names-stay}
+use Rattle.log.proofs.Keeping.{names-add, names-stay}
 use Rattle.log.proofs.kept.keep_first.Statement.{statement}
 use Rattle.log.proofs.kept.keep_first.Tie as tie
 

@@ -1,13 +1,16 @@
 -- `log::kept::keep_write` meets its contract: a write adds its transaction to the sets of its copy and of its item, and no
--- other record adds anything. Assumes nothing.
+-- other record adds anything.
 use borrow.Author.Needs.{needs}
 use mathlib.Core.Path.{_∙_, sym, ap}
 use Prim.Native.Nat.{ℕ, _*_}
 use lib.Dec.{eqb}
 use denote.Ref.{now}
-use Rattle.format.specs.Record.{items, sites, writes-copy, writes-item}
-use Rattle.format.proofs.KindBytes.{byte-is, byte-is-not, write-byte, copy-writes, item-writes, copy-silent, item-silent}
-use Rattle.log.proofs.Steps.{writers-add, writers-stay}
+use Rattle.histories.specs.History.{writes-copy, writes-item}
+use Rattle.histories.proofs.OfTransactions.{copy-writes, item-writes, copy-silent, item-silent}
+use Rattle.rules.specs.LogHistory.{history-of}
+use Rattle.rules.specs.Record.{items, sites}
+use Rattle.rules.proofs.KindBytes.{byte-is, byte-is-not, write-byte}
+use Rattle.log.proofs.Keeping.{writers-add, writers-stay}
 use Rattle.log.proofs.kept.keep_write.Statement.{statement}
 use Rattle.log.proofs.kept.keep_write.Tie as tie
 
@@ -65,11 +68,11 @@ returns c =
     let k = s .args .k in
     let t = at-transaction .transaction-at .result in
     let writes = byte-is (write-byte log k) (at-kind .kind-at .ensures) (at-transaction .before .if1 .taken) in (
-      writers-add log (writes-copy log) (items * sites) k (now (s .args .copy-writers)) (s .pre .1 .0) (at-copy .copy-at .result) t (at-store .with-member .result)
-          (at-copy .copy-at .ensures .1) (λ x. copy-writes log k writes x ∙ ap (λ (y : ℕ). eqb y x) (sym (at-copy .copy-at .ensures .0)))
+      writers-add log (writes-copy (history-of log)) (items * sites) k (now (s .args .copy-writers)) (s .pre .1 .0) (at-copy .copy-at .result) t (at-store .with-member .result)
+          (at-copy .copy-at .ensures .1) (λ x. copy-writes (history-of log) k writes x ∙ ap (λ (y : ℕ). eqb y x) (sym (at-copy .copy-at .ensures .0)))
           (at-transaction .transaction-at .ensures .0) (at-store .with-member .ensures),
-      writers-add log (writes-item log) items k (now (s .args .item-writers)) (s .pre .1 .1) (at-item .item-at .result) t (c .with-member2 .result)
-          (at-item .item-at .ensures .1) (λ x. item-writes log k writes x ∙ ap (λ (y : ℕ). eqb y x) (sym (at-item .item-at .ensures .0)))
+      writers-add log (writes-item (history-of log)) items k (now (s .args .item-writers)) (s .pre .1 .1) (at-item .item-at .result) t (c .with-member2 .result)
+          (at-item .item-at .ensures .1) (λ x. item-writes (history-of log) k writes x ∙ ap (λ (y : ℕ). eqb y x) (sym (at-item .item-at .ensures .0)))
           (at-transaction .transaction-at .ensures .0) (c .with-member2 .ensures),
     )
 
@@ -79,8 +82,8 @@ returns-2 c =
     let log = now (s .args .log) in
     let k = s .args .k in
     let silent = byte-is-not (write-byte log k) (c .before .kind-at .ensures) (c .if1 .left) in (
-      writers-stay log (writes-copy log) (items * sites) k (now (s .args .copy-writers)) (s .pre .1 .0) (copy-silent log k silent),
-      writers-stay log (writes-item log) items k (now (s .args .item-writers)) (s .pre .1 .1) (item-silent log k silent),
+      writers-stay log (writes-copy (history-of log)) (items * sites) k (now (s .args .copy-writers)) (s .pre .1 .0) (copy-silent (history-of log) k silent),
+      writers-stay log (writes-item (history-of log)) items k (now (s .args .item-writers)) (s .pre .1 .1) (item-silent (history-of log) k silent),
     )
 
 pub keep-write-spec : {M : Type 1} → statement M

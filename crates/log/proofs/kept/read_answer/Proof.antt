@@ -1,5 +1,5 @@
 -- `log::kept::read_answer` meets its contract: each look at a set is the test of one number, and the answer is that of the first
--- that holds. Assumes nothing.
+-- that holds.
 use borrow.Author.Needs.{needs}
 use borrow.Author.Tests.{not-true, not-false}
 use mathlib.Core.Path.{_≡_, refl, _∙_, sym}
@@ -9,8 +9,10 @@ use Prim.Native.Nat.{ℕ}
 use lib.ListN.{getD}
 use denote.Ref.{now}
 use Rattle.sets.specs.Bits.{has}
-use Rattle.log.specs.Refusal.{reads-unwritten, reads-past-own}
-use Rattle.log.proofs.Histories.{gives-7, gives-8, gives-none, unwritten-kept, written-kept, past-kept}
+use Rattle.histories.specs.Checked.{reads-unwritten, reads-past-own}
+use Rattle.rules.specs.LogHistory.{history-of}
+use Rattle.rules.proofs.Table.{gives-7, gives-8, gives-none}
+use Rattle.log.proofs.TestsKept.{unwritten-kept, written-kept, past-kept}
 use Rattle.log.proofs.kept.read_answer.Statement.{statement}
 use Rattle.log.proofs.kept.read_answer.Tie as tie
 
@@ -33,17 +35,17 @@ module _ (c : tie.After-item-at) where
   own = c .before .before .transaction-at .result
 
   -- what a look at them says
-  said-7 : copy-set ≡ 0 → reads-unwritten log k ≡ true
+  said-7 : copy-set ≡ 0 → reads-unwritten (history-of log) k ≡ true
   said-7 =
       let s = c .before .before .before .before in
       unwritten-kept log k (now (s .args .copy-writers)) (c .before .copy-at .result) (s .pre .1 .1 .0) (c .before .copy-at .ensures .0) (s .pre .1 .0)
 
-  said-not-7 : (copy-set ≡ 0 → ⊥) → reads-unwritten log k ≡ false
+  said-not-7 : (copy-set ≡ 0 → ⊥) → reads-unwritten (history-of log) k ≡ false
   said-not-7 =
       let s = c .before .before .before .before in
       written-kept log k (now (s .args .copy-writers)) (c .before .copy-at .result) (s .pre .1 .1 .0) (c .before .copy-at .ensures .0) (s .pre .1 .0)
 
-  said-8 : (a b : Bool) → has item-set own ≡ a → has copy-set own ≡ b → reads-past-own log k ≡ (a && not b)
+  said-8 : (a b : Bool) → has item-set own ≡ a → has copy-set own ≡ b → reads-past-own (history-of log) k ≡ (a && not b)
   said-8 a b e f =
       let s = c .before .before .before .before in
       rw (← e, ← f)
@@ -68,7 +70,7 @@ element-copy-out-writers c = search needs
 returns : tie.Need-returns
 returns c =
     let e = c .before .before in
-    sym (gives-7 (log e) (k e) (said-7 e (c .if1 .taken)))
+    sym (gives-7 (history-of (log e)) (k e) (said-7 e (c .if1 .taken)))
 
 mul-has-member : tie.Need-mul-has-member
 mul-has-member c = search needs
@@ -82,7 +84,7 @@ has-member-requires c κs = search needs
 returns-2 : tie.Need-returns-2
 returns-2 c =
     let e = c .before .before .before .before .before in
-    sym (gives-none (log e) (k e) (said-not-7 e (c .before .before .before .if1 .left))
+    sym (gives-none (history-of (log e)) (k e) (said-not-7 e (c .before .before .before .if1 .left))
     (said-8 e false (has (copy-set e) (own e)) (sym (c .before .has-member .ensures) ∙ not-true _ (c .if2 .taken)) refl))
 
 has-member-requires-2 : tie.Need-has-member-requires-2
@@ -91,13 +93,13 @@ has-member-requires-2 c κs = search needs
 returns-3 : tie.Need-returns-3
 returns-3 c =
     let e = c .before .before .before .before .before .before .before in
-    sym (gives-none (log e) (k e) (said-not-7 e (c .before .before .before .before .before .if1 .left))
+    sym (gives-none (history-of (log e)) (k e) (said-not-7 e (c .before .before .before .before .before .if1 .left))
     (said-8 e true true (sym (c .before .before .before .has-member .ensures) ∙ not-false _ (c .before .before .if2 .left)) (sym (c .before .has-member2 .ensures) ∙ c .if3 .taken)))
 
 returns-4 : tie.Need-returns-4
 returns-4 c =
     let e = c .before .before .before .before .before .before .before in
-    sym (gives-8 (log e) (k e) (said-not-7 e (c .before .before .before .before .before .if1 .left))
+    sym (gives-8 (history-of (log e)) (k e) (said-not-7 e (c .before .before .before .before .before .if1 .left))
     (said-8 e true false (sym (c .before .before .before .has-member .ensures) ∙ not-false _ (c .before .before .if2 .left)) (sym (c .before .has-member2 .ensures) ∙ c .if3 .left)))
 
 pub read-answer-spec : {M : Type 1} → statement M

@@ -1,5 +1,5 @@
 -- `log::source::source_of_record` meets its contract: the check's refusal is passed on, then 10 is tried, and then the source record
--- that the walk back finds is earlier than k, and so there. Assumes nothing.
+-- that the walk back finds is earlier than k, and so there.
 use borrow.Author.Needs.{needs}
 use native.Mathlib.Omega.{arith}
 use mathlib.Core.Path.{_≡_, _∙_, sym, ap}
@@ -7,13 +7,17 @@ use mathlib.Core.List.{List}
 use mathlib.Core.Option.{Option, some, none}
 use Prim.Native.Nat.{ℕ, _<_}
 use denote.Ref.{now}
-use Rattle.format.specs.Answer.{gives, passed}
-use Rattle.format.specs.Record.{records}
+use Rattle.histories.specs.Source.{source, its-transaction}
+use Rattle.histories.proofs.Sources.{sourced}
+use Rattle.rules.specs.Answer.{gives, passed}
+use Rattle.rules.specs.LogHistory.{history-of}
+use Rattle.rules.specs.Questions.{source-answer}
+use Rattle.rules.specs.Record.{records}
+use Rattle.rules.specs.Refusals.{check-answer}
+use Rattle.rules.proofs.PassedLogs.{passed-passes}
+use Rattle.rules.proofs.Asked.{asked-refused, asked-past, asked}
 use Rattle.format.specs.Numbers.{checked-says}
-use Rattle.log.specs.Refusal.{check-answer}
-use Rattle.log.specs.Source.{source, its-transaction, source-answer}
 use Rattle.log.specs.Numbers.{found-says}
-use Rattle.log.proofs.Sources.{sourced, asked-refused, asked-past, asked}
 use Rattle.log.proofs.source.source_of_record.Statement.{statement}
 use Rattle.log.proofs.source.source_of_record.Tie as tie
 
@@ -35,11 +39,11 @@ there c = rw (← c .before .record-count .ensures) (c .if1 .left)
 -- where the walk back has ended
 module _ (c : tie.After-source-record) where
   answered : (o : Option ℕ) → found-says (c .source-record .result) ≡ o
-      → gives (its-transaction (log (c .before .before .before)) o) ≡ source-answer (log (c .before .before .before)) (k (c .before .before .before))
+      → gives (its-transaction (history-of (log (c .before .before .before))) o) ≡ source-answer (log (c .before .before .before)) (k (c .before .before .before))
   unfolding source
   answered o e =
       let f = c .before .before .before in
-      ap (λ (x : Option ℕ). gives (its-transaction (log f) x)) (sym e ∙ c .source-record .ensures) ∙ sym (asked (log f) (k f) (sound f) (there (c .before)))
+      ap (λ (x : Option ℕ). gives (its-transaction (history-of (log f)) x)) (sym e ∙ c .source-record .ensures) ∙ sym (asked (log f) (k f) (sound f) (there (c .before)))
 
 check-requires : tie.Need-check-requires
 check-requires c κs = search needs
@@ -57,7 +61,7 @@ returns : tie.Need-returns
 returns c = let e = c .before .before in sym (asked-past (log e) (k e) (sound e) (rw (← c .before .record-count .ensures) (c .if1 .taken)))
 
 source-record-requires : tie.Need-source-record-requires
-source-record-requires c κs = (sound (c .before .before), there c)
+source-record-requires c κs = (passed-passes (log (c .before .before)) (sound (c .before .before)) .in-limits, there c)
 
 enum-known-e : tie.Need-enum-known-e
 enum-known-e c = search needs
@@ -66,7 +70,7 @@ record-at-requires : tie.Need-record-at-requires
 record-at-requires c κs =
     let w = c .before .before .before in
     let f = w .before .before .before in
-    let s = sourced (log f) (k f) (c .before .e .given .0 .0) (sym (w .source-record .ensures) ∙ ap found-says (c .before .e .given .1)) in
+    let s = sourced (history-of (log f)) (k f) (c .before .e .given .0 .0) (sym (w .source-record .ensures) ∙ ap found-says (c .before .e .given .1)) in
     omega (arith, s .earlier, there (w .before))
 
 enum-told-2 : tie.Need-enum-told-2

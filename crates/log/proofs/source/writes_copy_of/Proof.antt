@@ -1,4 +1,4 @@
--- `log::source::writes_copy_of` meets its contract: a write writes the copy that it names, and no other. Assumes nothing.
+-- `log::source::writes_copy_of` meets its contract: a write writes the copy that it names, and no other.
 use borrow.Author.Needs.{needs}
 use mathlib.Core.Path.{_≡_, _∙_, sym, ap}
 use mathlib.Core.Bool.{Bool, _&&_}
@@ -7,8 +7,12 @@ use borrow.Author.Tests.{eq-eqb, ne-eqb}
 use Prim.Native.Nat.{ℕ}
 use denote.Ref.{now}
 use Rattle.sets.proofs.Truth.{and-nothing, and-always}
-use Rattle.format.specs.Record.{is-write, copy-of, writes-copy}
-use Rattle.format.proofs.KindBytes.{write-byte, writes-copy-of}
+use Rattle.histories.specs.Source.{shows}
+use Rattle.histories.proofs.OfTransactions.{writes-copy-of}
+use Rattle.rules.specs.LogHistory.{history-of}
+use Rattle.rules.specs.Record.{is-write, copy-of}
+use Rattle.rules.proofs.KindBytes.{write-byte}
+use Rattle.rules.proofs.PassedLogs.{shows-all}
 use Rattle.log.proofs.source.writes_copy_of.Statement.{statement}
 use Rattle.log.proofs.source.writes_copy_of.Tie as tie
 
@@ -27,11 +31,12 @@ module _ (c : tie.After-copy-at2) where
   writes = is-write (now (start .args .log)) (start .args .e)
 
   -- what record e writes, by the copies that were read
-  by-copies : writes-copy (now (start .args .log)) (start .args .e) (copy-of (now (start .args .log)) (start .args .k))
+  by-copies : shows (history-of (now (start .args .log))) (start .args .k) (start .args .e)
       ≡ (writes && eqb (c .before .copy-at .result) (c .copy-at2 .result))
   by-copies =
       let log = now (start .args .log) in
-      writes-copy-of log (start .args .e) (copy-of log (start .args .k)) (c .before .copy-at .ensures .0)
+      shows-all log (start .args .k) (start .args .e)
+      ∙ writes-copy-of (history-of log) (start .args .e) (copy-of log (start .args .k)) (c .before .copy-at .ensures .0)
       ∙ ap (λ (d : ℕ). writes && eqb (c .before .copy-at .result) d) (sym (c .copy-at2 .ensures .0))
 
 returns : tie.Need-returns

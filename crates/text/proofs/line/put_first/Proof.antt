@@ -1,4 +1,4 @@
--- `text::line::put_first` meets its contract: the word, a space, the number and the newline, one behind the other. Assumes nothing.
+-- `text::line::put_first` meets its contract: the word, a space, the number and the newline, one behind the other.
 use native.Mathlib.Omega.{arith}
 use denote.Ref.{now}
 use Rattle.text.specs.Text.{space, newline, first-line}

@@ -1,4 +1,4 @@
--- `text::line::put_record` meets its contract: with the reason and without it. Assumes nothing.
+-- `text::line::put_record` meets its contract: with the reason and without it.
 use native.Mathlib.Omega.{arith}
 use Prim.Native.Nat.{ℕ}
 use mathlib.Core.Path.{sym, ap}

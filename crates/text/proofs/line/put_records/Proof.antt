@@ -1,4 +1,4 @@
--- `text::line::put_records` meets its contract. The invariant: the lines of the first k records have been put. Assumes nothing.
+-- `text::line::put_records` meets its contract. The invariant: the lines of the first k records have been put.
 use native.Mathlib.Omega.{arith}
 use Prim.Native.Nat.{ℕ, _+_, _*_, _-_, _<_, _≤_}
 use mathlib.Core.Path.{_≡_, subst}

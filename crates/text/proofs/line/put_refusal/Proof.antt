@@ -1,4 +1,4 @@
--- `text::line::put_refusal` meets its contract: the word, the two numbers, the spaces and the newline, one behind the other. Assumes nothing.
+-- `text::line::put_refusal` meets its contract: the word, the two numbers, the spaces and the newline, one behind the other.
 use native.Mathlib.Omega.{arith}
 use Rattle.text.specs.Text.{space, newline, refused-word, refusal-line}
 use Rattle.text.proofs.Decimals.{number-short}

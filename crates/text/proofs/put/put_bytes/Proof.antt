@@ -1,4 +1,4 @@
--- `text::put::put_bytes` meets its contract. The invariant: the first k bytes have been put. Assumes nothing.
+-- `text::put::put_bytes` meets its contract. The invariant: the first k bytes have been put.
 use native.Mathlib.Omega.{arith}
 use mathlib.Core.Path.{_≡_, _∙_, ap, refl}
 use mathlib.Core.List.{List}

@@ -1,4 +1,4 @@
--- `text::put::put_decimal` meets its contract: what `io::decimal` writes is the number in decimal. Assumes nothing.
+-- `text::put::put_decimal` meets its contract: what `io::decimal` writes is the number in decimal.
 use native.Mathlib.Omega.{arith}
 use mathlib.Core.Path.{_≡_, _∙_, ap}
 use lib.ListN.{length, take}

@@ -1,4 +1,4 @@
--- `verdict::answer::reasons_along` meets its contract. The invariant: the reasons of the first k have been found. Assumes nothing.
+-- `verdict::answer::reasons_along` meets its contract. The invariant: the reasons of the first k have been found.
 use native.Mathlib.Omega.{arith}
 use mathlib.Core.Path.{_≡_, _∙_, ap, sym, subst}
 use mathlib.Core.List.{List}
@@ -7,9 +7,10 @@ use mathlib.Core.Logic.{⊎-elim}
 use lib.ListN.{length-replicate}
 use denote.Ref.{now}
 use Rattle.edges.specs.Table.{lowest-in}
-use Rattle.verdict.specs.Verdict.{entry, round-to}
+use Rattle.answers.specs.Verdict.{entry, round-to}
 use Rattle.verdict.specs.Kept.{Along}
-use Rattle.verdict.proofs.Records.{round-next, round-back, round-low, along-more}
+use Rattle.answers.proofs.AnswerRecords.{round-next, round-back, round-low}
+use Rattle.verdict.proofs.Along.{along-more}
 use Rattle.verdict.proofs.answer.reasons_along.Statement.{statement}
 use Rattle.verdict.proofs.answer.reasons_along.Tie as tie
 use Rattle.verdict.proofs.answer.reasons_along.Reads as reads

@@ -1,4 +1,4 @@
--- `verdict::answer::write_records` meets its contract. The invariant: the first k records have been written. Assumes nothing.
+-- `verdict::answer::write_records` meets its contract. The invariant: the first k records have been written.
 use native.Mathlib.Omega.{arith}
 use mathlib.Core.Path.{_≡_, _∙_, ap}
 use mathlib.Core.List.{List}
@@ -6,8 +6,8 @@ use Prim.Native.Nat.{ℕ, _+_, _*_, _-_, _<_, _≤_}
 use lib.ListN.{length, set, length-set}
 use lib.Seq.{sets}
 use denote.Ref.{now}
-use Rattle.verdict.specs.Verdict.{entry, pairs}
-use Rattle.verdict.proofs.Records.{pairs-none, pairs-more, pairs-room}
+use Rattle.answers.specs.Verdict.{entry, pairs}
+use Rattle.verdict.proofs.Pairs.{pairs-none, pairs-more, pairs-room}
 use Rattle.verdict.proofs.answer.write_records.Statement.{statement}
 use Rattle.verdict.proofs.answer.write_records.Tie as tie
 

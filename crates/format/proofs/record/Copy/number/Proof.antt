@@ -3,7 +3,7 @@
 use borrow.Author.Needs.{needs}
 use native.Mathlib.Omega.{arith}
 use mathlib.Core.Path.{refl}
-use Rattle.format.specs.Record.{copy-number}
+use Rattle.rules.specs.Record.{copy-number}
 use Rattle.format.proofs.record.Copy.number.Statement.{statement}
 use Rattle.format.proofs.record.Copy.number.Tie as tie
 

@@ -1,0 +1,3 @@
+pub mod Verdict
+pub mod Demands
+pub mod Marked

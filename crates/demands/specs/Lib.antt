@@ -1,4 +1,0 @@
-pub mod Serial
-pub mod Reasons
-pub mod Demands
-pub mod Marked
