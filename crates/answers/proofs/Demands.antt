@@ -115,10 +115,10 @@ module _ (log old : List ℕ) (answer : Answer (LineOrCycle ℕ)) (new : List �
     ring = members-of given
 
     is-ring : given ≡ cycle ring
-    is-ring = cycle-of n given (its-length-is (cycle n) a) .0
+    is-ring = cycle-of n given (its-length-is (cycle n) a) .is-one
 
     ring-length : n ≡ length ring
-    ring-length = cycle-of n given (its-length-is (cycle n) a) .1
+    ring-length = cycle-of n given (its-length-is (cycle n) a) .counted
 
     ring-written : new ≡ cycle-records log ring ++ drop (n * record-size) old
     ring-written =
@@ -188,10 +188,10 @@ module _ (log old : List ℕ) (answer : Answer (LineOrCycle ℕ)) (new : List �
     the-given = members-of given
 
     is-the-line : given ≡ line the-given
-    is-the-line = line-of n given (its-length-is (line n) a) .0
+    is-the-line = line-of n given (its-length-is (line n) a) .is-one
 
     line-counted : n ≡ length the-given
-    line-counted = line-of n given (its-length-is (line n) a) .1
+    line-counted = line-of n given (its-length-is (line n) a) .counted
 
     line-written : new ≡ line-records the-given ++ drop (n * record-size) old
     line-written =

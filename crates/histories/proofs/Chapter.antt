@@ -45,7 +45,26 @@ module _ (h : History) where
       read-before-edge h j k (record { from-part = part; to-part = w .part; other = λ q. f (sym q) })
       (of-hit h j (λ g. gives-read-before h g k) e (r .counts .there) (r .its-own) (sourced-gives h e k i (r .is-real) (r .from) ∙ at-record))
 
-  -- an edge of SG, and that the graph has every one
+  -- a record of one that takes part counts
+  pub counts-of : (e t : ℕ) → e < h .size → h .transaction e ≡ t → h .takes-part t ≡ true → Counts h e
+  counts-of e t l q p = record { there = l; part = subst (λ (u : ℕ). h .takes-part u ≡ true) (sym q) p }
+
+  -- only a read has a source; and where it counts and is real, its transaction reads from there
+  pub source-reads : (k s : ℕ) → source h k ≡ some s → h .is-read k ≡ true
+  source-reads k s q = let r = source-record-of h k s q in sourced h k (r .at) (r .found) .reads
+
+  pub reads-from : (k s : ℕ) → Counts h k → h .real k ≡ true → source h k ≡ some s → ReadsFrom h (h .item k) (h .transaction k) s k
+  reads-from k s c real q = record { counts = c; its-own = refl; of-item = refl; is-real = real; from = q }
+
+  -- an edge of SG joins two that take part, by a conflict; and the graph has every one
+  pub SG-two : (i j : ℕ) → serialization-edge h i j ≡ true → Two h i j
+  unfolding serialization-edge
+  SG-two i j b = two-found h i j (and-left (two-of-them h i j) (conflict h i j) b)
+
+  pub SG-conflict : (i j : ℕ) → serialization-edge h i j ≡ true → conflict h i j ≡ true
+  unfolding serialization-edge
+  SG-conflict i j b = and-right (two-of-them h i j) (conflict h i j) b
+
   pub conflict-in-SG : (e f : ℕ) → e < f → Counts h e → Counts h f → (h .transaction e ≡ h .transaction f → ⊥) → conflicting h e f ≡ true
       → serialization-edge h (h .transaction e) (h .transaction f) ≡ true
   unfolding serialization-edge
@@ -54,16 +73,14 @@ module _ (h : History) where
       (conflict-hit h e f l (w .there) b)
 
   pub extends-SG : (i j : ℕ) → serialization-edge h i j ≡ true → edge h i j ≡ true
-  unfolding serialization-edge
-  extends-SG i j b =
-      conflict-edge h i j (two-found h i j (and-left (two-of-them h i j) (conflict h i j) b)) (and-right (two-of-them h i j) (conflict h i j) b)
+  extends-SG i j b = conflict-edge h i j (SG-two i j b) (SG-conflict i j b)
 
   -- another's write, between an own write of a copy and a read of it, would come after the own one and before it
   between : Acyclic (serialization-edge h) → (e f k : ℕ) → Counts h k → h .is-read k ≡ true → e < f → f < k
       → WritesCopy h e (h .copy k) → WritesCopy h f (h .copy k) → h .transaction e ≡ h .transaction k → h .takes-part (h .transaction f) ≡ true
       → (h .transaction f ≡ h .transaction k → ⊥) → ⊥
   between acyclic e f k c r a b v w own part other =
-      let first : Counts h e = record { there = omega (arith, a, b, c .there); part = subst (λ (t : ℕ). h .takes-part t ≡ true) (sym own) (c .part) } in
+      let first = counts-of e (h .transaction k) (omega (arith, a, b, c .there)) own (c .part) in
       let second : Counts h f = record { there = omega (arith, b, c .there); part = part } in
       let there = rw own at (conflict-in-SG e f a first second (λ q. other (sym q ∙ own))
       (write-then-use h e f (v .is-one) (write-uses h f (w .is-one)) (w .of-copy ∙ sym (v .of-copy)))) in

@@ -12,7 +12,7 @@ use borrow.Author.Tests.{eq-eqb, eqb-true}
 use Rattle.sets.proofs.Truth.{clash, and-true, and-left, and-right, or-cases, or-hit-left, or-hit-right}
 use Rattle.lines.specs.Rule.{among, place-of}
 use Rattle.lines.specs.Lines.{NoneTwice, stands-before}
-use Rattle.lines.proofs.Lists.{among-nil, among-later, among-other, place-same, place-other}
+use Rattle.lines.proofs.Lists.{among-nil, among-later, among-other, place-same, place-other, among-cases}
 
 -- what stands before what
 stands-nil : (s t : ℕ) → stands-before [] s t ≡ false
@@ -38,7 +38,7 @@ stands-cases x xs s t h =
     (or-cases (eqb x s && among xs t) (stands-before xs s t) h)
 
 -- what stands after something is in the list, and not first in it
-stands-among : (xs : List ℕ) (s t : ℕ) → stands-before xs s t ≡ true → among xs t ≡ true
+pub stands-among : (xs : List ℕ) (s t : ℕ) → stands-before xs s t ≡ true → among xs t ≡ true
 stands-among [] s t h = absurd (clash (stands-before [] s t) h (stands-nil s t))
 stands-among (x ∷ xs) s t h =
     ⊎-elim
@@ -79,6 +79,28 @@ stands-through (x ∷ xs) r s t d h k =
         (λ (v : (x ≡ r) × (among xs s ≡ true)). from-first (v .0) (stands-among xs s t w))
         (λ (v : stands-before xs r s ≡ true). stands-later x xs r t (ih v))
         (stands-cases x xs r s h)
+
+-- two of a list, and which of them stands first ..
+pub one-stands-first : (xs : List ℕ) (s t : ℕ) → among xs s ≡ true → among xs t ≡ true → (s ≡ t → ⊥)
+    → (stands-before xs s t ≡ true) ⊎ (stands-before xs t s ≡ true)
+one-stands-first [] s t a b d = absurd (clash (among [] s) a (among-nil s))
+one-stands-first (x ∷ xs) s t a b d =
+    ⊎-elim
+    (λ (p : x ≡ s). ⊎-elim (λ (q : x ≡ t). absurd (d (sym p ∙ q))) (λ (q : among xs t ≡ true). inl (first s t p q)) (among-cases x xs t b))
+    (λ (p : among xs s ≡ true).
+    ⊎-elim (λ (q : x ≡ t). inr (first t s q p)) (λ (q : among xs t ≡ true). further (one-stands-first xs s t p q d)) (among-cases x xs t b))
+    (among-cases x xs s a)
+  where
+    first : (u v : ℕ) → x ≡ u → among xs v ≡ true → stands-before (x ∷ xs) u v ≡ true
+    first u v p q = subst (λ (y : ℕ). stands-before (x ∷ xs) y v ≡ true) p (stands-first x xs v q)
+
+    further : (stands-before xs s t ≡ true) ⊎ (stands-before xs t s ≡ true)
+        → (stands-before (x ∷ xs) s t ≡ true) ⊎ (stands-before (x ∷ xs) t s ≡ true)
+    further = ⊎-elim (λ h. inl (stands-later x xs s t h)) (λ h. inr (stands-later x xs t s h))
+
+-- .. and not the other too
+pub not-both : (xs : List ℕ) (s t : ℕ) → NoneTwice xs → stands-before xs s t ≡ true → stands-before xs t s ≡ true → ⊥
+not-both xs s t n a b = stands-not-itself xs s n (stands-through xs s t s n a b)
 
 -- THEOREM: where none stands twice, what stands before another stands at a lower place ..
 pub stands-lower : (xs : List ℕ) (s t : ℕ) → NoneTwice xs → stands-before xs s t ≡ true → place-of s xs < place-of t xs

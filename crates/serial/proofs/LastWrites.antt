@@ -16,9 +16,10 @@ use Rattle.histories.specs.Sound.{Sound}
 use Rattle.histories.proofs.OfTransactions.{WritesCopy, writes-copy-found, writes-copy-hit, writes-hit}
 use Rattle.histories.proofs.Conflicts.{write-uses, write-then-use}
 use Rattle.lines.specs.Lines.{stands-before}
+use Rattle.lines.proofs.Stands.{not-both}
 use Rattle.serial.specs.Run.{last-writer}
 use Rattle.serial.specs.Serial.{InLogOrder, part-writes, last-write, MadeLastWrite, LastWritesKept}
-use Rattle.serial.proofs.Runs.{not-both, last-of-found}
+use Rattle.serial.proofs.Runs.{last-of-found}
 
 -- a write on a copy, of one that takes part
 module _ (h : History) (c e : ℕ) where

@@ -1,4 +1,3 @@
-pub mod Histories
 pub mod Runs
 pub mod Graphs
 pub mod LogOrders

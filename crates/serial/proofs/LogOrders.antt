@@ -11,11 +11,10 @@ use Rattle.histories.specs.Reasons.{conflict}
 use Rattle.histories.specs.Chapter.{serialization-edge}
 use Rattle.histories.proofs.Reasons.{conflict-found}
 use Rattle.histories.proofs.Edges.{Two}
-use Rattle.histories.proofs.Chapter.{conflict-in-SG}
+use Rattle.histories.proofs.Chapter.{conflict-in-SG, counts-of, SG-two, SG-conflict}
 use Rattle.lines.specs.Lines.{stands-before, Line}
 use Rattle.lines.proofs.Chosen.{within-edge}
 use Rattle.serial.specs.Serial.{InLogOrder}
-use Rattle.serial.proofs.Histories.{counts-of, SG-two, SG-conflict}
 use Rattle.serial.proofs.Graphs.{line-keeps, line-no-cycle}
 
 module _ (h : History) (line : List ℕ) where

@@ -17,11 +17,10 @@ use Rattle.histories.specs.Sound.{Sound}
 use Rattle.histories.proofs.OfTransactions.{wrote-item-hit}
 use Rattle.histories.proofs.Sources.{shows-found, sourced, source-record-of}
 use Rattle.histories.proofs.Conflicts.{read-uses, write-uses, write-then-use}
-use Rattle.histories.proofs.Chapter.{source-writes, lemma-8-1}
+use Rattle.histories.proofs.Chapter.{source-writes, lemma-8-1, counts-of, source-reads, reads-from}
 use Rattle.lines.specs.Lines.{stands-before}
 use Rattle.serial.specs.Run.{before, last-writer, run-writer}
 use Rattle.serial.specs.Serial.{InLogOrder, OneCopyLine}
-use Rattle.serial.proofs.Histories.{counts-of, source-reads, reads-from}
 use Rattle.serial.proofs.Runs.{stands-there, LastBefore, last-before-found, last-before-is}
 use Rattle.serial.proofs.LogOrders.{log-order-no-cycle}
 

@@ -12,7 +12,7 @@ use Rattle.sets.proofs.Truth.{clash}
 use Rattle.lines.specs.Rule.{among}
 use Rattle.lines.specs.Lines.{NoneTwice, stands-before}
 use Rattle.lines.proofs.Lists.{among-nil, among-first, among-later, among-cases}
-use Rattle.lines.proofs.Stands.{stands-first, stands-later, stands-cases, stands-not-itself, stands-through, after-first}
+use Rattle.lines.proofs.Stands.{stands-first, stands-later, stands-cases, stands-among, after-first, stands-not-itself, not-both}
 use Rattle.serial.specs.Run.{before, last-of}
 
 -- what stands before j: its clauses
@@ -28,34 +28,9 @@ before-other : (j t : ℕ) (ts : List ℕ) → (t ≡ j → ⊥) → before j (t
 unfolding before
 before-other j t ts d = rw (ne-eqb t j d) refl
 
--- two of a line, and which of them stands first
-pub one-stands-first : (xs : List ℕ) (s t : ℕ) → among xs s ≡ true → among xs t ≡ true → (s ≡ t → ⊥)
-    → (stands-before xs s t ≡ true) ⊎ (stands-before xs t s ≡ true)
-one-stands-first [] s t a b d = absurd (clash (among [] s) a (among-nil s))
-one-stands-first (x ∷ xs) s t a b d =
-    ⊎-elim
-    (λ (p : x ≡ s). ⊎-elim (λ (q : x ≡ t). absurd (d (sym p ∙ q))) (λ (q : among xs t ≡ true). inl (first s t p q)) (among-cases x xs t b))
-    (λ (p : among xs s ≡ true).
-    ⊎-elim (λ (q : x ≡ t). inr (first t s q p)) (λ (q : among xs t ≡ true). further (one-stands-first xs s t p q d)) (among-cases x xs t b))
-    (among-cases x xs s a)
-  where
-    first : (u v : ℕ) → x ≡ u → among xs v ≡ true → stands-before (x ∷ xs) u v ≡ true
-    first u v p q = subst (λ (y : ℕ). stands-before (x ∷ xs) y v ≡ true) p (stands-first x xs v q)
-
-    further : (stands-before xs s t ≡ true) ⊎ (stands-before xs t s ≡ true)
-        → (stands-before (x ∷ xs) s t ≡ true) ⊎ (stands-before (x ∷ xs) t s ≡ true)
-    further = ⊎-elim (λ h. inl (stands-later x xs s t h)) (λ h. inr (stands-later x xs t s h))
-
--- .. and not the other too
-pub not-both : (xs : List ℕ) (s t : ℕ) → NoneTwice xs → stands-before xs s t ≡ true → stands-before xs t s ≡ true → ⊥
-not-both xs s t n a b = stands-not-itself xs s n (stands-through xs s t s n a b)
-
--- what stands after something is there, so nothing stands before what is not
-after-there : (xs : List ℕ) (s t : ℕ) → stands-before xs s t ≡ true → among xs t ≡ true
-after-there xs s t h = after-first 0 xs s t (stands-later 0 xs s t h)
-
+-- nothing stands before what is not there
 none-stands : (s t : ℕ) → stands-before [] s t ≡ true → ⊥
-none-stands s t h = clash (among [] t) (after-there [] s t h) (among-nil t)
+none-stands s t h = clash (among [] t) (stands-among [] s t h) (among-nil t)
 
 not-before-itself : (j x : ℕ) (xs : List ℕ) (t : ℕ) → x ≡ j → among (before j (x ∷ xs)) t ≡ true → ⊥
 not-before-itself j x xs t e h = clash (among [] t) (ap (λ (ys : List ℕ). among ys t) (sym (before-itself j x xs e)) ∙ h) (among-nil t)
@@ -212,4 +187,4 @@ module _ (p : ℕ → Bool) where
                 ⊎-elim
                 (λ (d : u ≡ w). stands-not-itself xs w none-twice (subst (λ (y : ℕ). stands-before xs w y ≡ true) d after))
                 (λ (d : stands-before xs u w ≡ true). not-both xs w u none-twice after d)
-                (v .others u (before-stands xs j u (after-there xs w j (v .stands)) (l .there)) (l .passes))
+                (v .others u (before-stands xs j u (stands-among xs w j (v .stands)) (l .there)) (l .passes))

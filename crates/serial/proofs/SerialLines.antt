@@ -12,13 +12,11 @@ use Rattle.histories.specs.Sound.{Sound}
 use Rattle.histories.proofs.Orders.{one-comes-first}
 use Rattle.histories.proofs.Reasons.{InWriteOrder, ReadBefore, write-order-found, read-before-found}
 use Rattle.histories.proofs.Edges.{Two, edge-two, edge-reasons}
-use Rattle.histories.proofs.Chapter.{ordered-edge, reader-edge, extends-SG, source-writes}
+use Rattle.histories.proofs.Chapter.{ordered-edge, reader-edge, extends-SG, source-writes, counts-of, reads-from}
 use Rattle.lines.specs.Lines.{stands-before, Line}
 use Rattle.lines.proofs.Chosen.{within-edge}
-use Rattle.lines.proofs.Stands.{stands-not-itself}
+use Rattle.lines.proofs.Stands.{stands-not-itself, one-stands-first, not-both}
 use Rattle.serial.specs.Serial.{KeepsWriteOrder, InLogOrder, SerialLine}
-use Rattle.serial.proofs.Histories.{counts-of, reads-from}
-use Rattle.serial.proofs.Runs.{one-stands-first, not-both}
 use Rattle.serial.proofs.Graphs.{line-keeps}
 use Rattle.serial.proofs.LogOrders.{conflict-kept, log-order-exactly}
 use Rattle.serial.proofs.OneCopy.{NoneEverBetween, one-copy-line, one-copy-between}

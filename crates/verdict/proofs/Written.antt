@@ -80,17 +80,17 @@ module _ (log : List ℕ) (sound : Passes log) (n : ℕ) (old blank buffer secon
         → sets old 0 (pairs n (entry buffer) (entry seconds)) ≡ sets old 0 (answer-records log (gives o))
     line-answer e none =
         let is = line-of n o e in
-        by-length (is .1)
-        ∙ ap (sets old 0) (line-written xs blank fits seconds none ∙ sym (ap (λ (a : LineOrCycle (List ℕ)). answer-records log (gives a)) (is .0)))
+        by-length (is .counted)
+        ∙ ap (sets old 0) (line-written xs blank fits seconds none ∙ sym (ap (λ (a : LineOrCycle (List ℕ)). answer-records log (gives a)) (is .is-one)))
 
     pub cycle-answer : cycle n ≡ length-of o → (lowest : ℕ → ℕ → ℕ) → ((i j : ℕ) → lowest i j ≡ reason (history-of log) i j) → Along lowest buffer n n seconds
         → sets old 0 (pairs n (entry buffer) (entry seconds)) ≡ sets old 0 (answer-records log (gives o))
     cycle-answer e lowest same w =
         let is = cycle-of n o e in
-        let along = subst₂ (λ (m : ℕ) (ys : List ℕ). Along lowest ys m m seconds) (is .1) sorted-in w in
-        by-length (is .1)
+        let along = subst₂ (λ (m : ℕ) (ys : List ℕ). Along lowest ys m m seconds) (is .counted) sorted-in w in
+        by-length (is .counted)
         ∙ ap (sets old 0)
-        (cycle-written xs blank fits log seconds lowest same along ∙ sym (ap (λ (a : LineOrCycle (List ℕ)). answer-records log (gives a)) (is .0)))
+        (cycle-written xs blank fits log seconds lowest same along ∙ sym (ap (λ (a : LineOrCycle (List ℕ)). answer-records log (gives a)) (is .is-one)))
 
     -- the first n of the buffer are transactions
     pub first-low : n ≡ length xs → Low n buffer

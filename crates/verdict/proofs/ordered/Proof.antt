@@ -114,7 +114,7 @@ write-records-requires : tie.Need-write-records-requires
 write-records-requires c κs =
     let at-n = c .before .before .before .before in
     let s = line-sorted at-n in
-    let counted = line-of (at-n .n .given .0 .0) (line-or-cycle (log-of s)) (is-line at-n) .1 in
+    let counted = line-of (at-n .n .given .0 .0) (line-or-cycle (log-of s)) (is-line at-n) .counted in
     (omega (arith, fits s (at-n .n .given .0 .0) counted), start s .pre .1)
 
 enum-known-n-2 : tie.Need-enum-known-n-2
@@ -129,7 +129,7 @@ module _ (c : tie.After-n2) where
   is-cycle = sym (ap sorted-says (c .n2 .given .1)) ∙ says cycle-sorted
 
   counted : c .n2 .given .0 .0 ≡ length (members-of (line-or-cycle (log-of cycle-sorted)))
-  counted = cycle-of (c .n2 .given .0 .0) (line-or-cycle (log-of cycle-sorted)) is-cycle .1
+  counted = cycle-of (c .n2 .given .0 .0) (line-or-cycle (log-of cycle-sorted)) is-cycle .counted
 
 reasons-along-requires : tie.Need-reasons-along-requires
 reasons-along-requires c κs =
