@@ -8,7 +8,7 @@ use Rattle.histories.specs.Source.{shows, is-written, source-record, source}
 use Rattle.histories.specs.Order.{comes-before, writer-after}
 use Rattle.histories.specs.Reasons.{on-same-copy, conflicting, gives-conflict, gives-write-order, gives-read-before}
 use Rattle.histories.specs.Reasons.{conflict, write-order, read-before, two-of-them, edge, reason}
-use Rattle.histories.specs.Checked.{after-commit, reads-unwritten, reads-past-own}
+use Rattle.histories.specs.Faults.{after-commit, reads-unwritten, reads-past-own}
 use Rattle.rules.specs.Rows.{answer-of, over}
 use Rattle.rules.specs.Record.{kind, transaction, item, site, records, read-kind, write-kind, commit-kind, is-read, is-write, is-commit}
 use Rattle.rules.specs.Record.{copy-number, copy-of}

@@ -1,4 +1,4 @@
--- A refusal is known by its number and place, so two answers of a check that say the same are the same. Assumes nothing.
+-- A refusal is known by its number and place, so two answers of a check that say the same are the same.
 use Prim.Native.Nat.{ℕ, _-_}
 use native.Mathlib.Omega.{arith}
 use mathlib.Core.Path.{_≡_, refl, sym, _∙_, ap, ap₂}

@@ -5,4 +5,4 @@ pub mod Conflicts
 pub mod Reasons
 pub mod Edges
 pub mod Chapter
-pub mod Checked
+pub mod Faults

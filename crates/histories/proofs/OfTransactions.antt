@@ -2,13 +2,14 @@
 -- transaction has written.
 use Prim.Native.Nat.{ℕ, _+_, _<_}
 use native.Mathlib.Omega.{arith}
-use mathlib.Core.Path.{_≡_, refl, sym, ap}
-use mathlib.Core.Bool.{Bool, true, false, _&&_}
+use mathlib.Core.Path.{_≡_, refl, sym, _∙_, ap}
+use mathlib.Core.Bool.{Bool, true, false, _&&_, _||_}
 use mathlib.Core.Option.{Option, none, some}
 use lib.Dec.{eqb}
 use borrow.Author.Tests.{eq-eqb, eqb-true}
 use Rattle.sets.specs.Search.{first-below}
-use Rattle.sets.proofs.Truth.{clash, and-true, and-left, and-right}
+use Rattle.sets.specs.Bits.{has}
+use Rattle.sets.proofs.Truth.{clash, and-true, and-left, and-right, and-always, and-nothing}
 use Rattle.sets.proofs.Searches.{some-hit, some-found, First, first-none, first-some, first-view, first-found}
 use Rattle.sets.proofs.From.{from-hit, from-found}
 use Rattle.histories.specs.History.{History, is-by, writes-copy, writes-item}
@@ -26,6 +27,19 @@ module _ (h : History) where
   pub by-same : (k t : ℕ) → is-by h k t ≡ true → h .transaction k ≡ t
   unfolding is-by
   by-same k t b = eqb-true (h .transaction k) t b
+
+  -- A set to which the transaction of record k was added has gained what the record says, where it counts; and a record that does not
+  -- count says nothing.
+  module _ (k : ℕ) (counts : Bool) where
+    pub own-added : (t v old : ℕ) → counts ≡ true → t ≡ h .transaction k → ((j : ℕ) → has v j ≡ (has old j || eqb t j))
+        → (j : ℕ) → has v j ≡ (has old j || (is-by h k j && counts))
+    own-added t v old c q w j = w j ∙ ap (λ (b : Bool). has old j || b) (ap (λ (x : ℕ). eqb x j) q ∙ sym (by-is k j) ∙ sym it-counts)
+      where
+        it-counts : (is-by h k j && counts) ≡ is-by h k j
+        it-counts = ap (λ (b : Bool). is-by h k j && b) c ∙ and-always (is-by h k j)
+
+    pub none-added : counts ≡ false → (j : ℕ) → (is-by h k j && counts) ≡ false
+    none-added c j = ap (λ (b : Bool). is-by h k j && b) c ∙ and-nothing (is-by h k j)
 
   -- a record of t that passes, and stands before record k; or after record e
   pub record OneBefore (k t : ℕ) (p : ℕ → Bool) : Type 0 where

@@ -14,7 +14,7 @@ use Rattle.histories.specs.History.{History}
 use Rattle.histories.specs.Earlier.{some-of, some-after, first-of, writes}
 use Rattle.histories.specs.Order.{earlier, comes-before, writer-after}
 use Rattle.histories.specs.Chapter.{Writer}
-use Rattle.histories.specs.Checked.{CommitsOnce}
+use Rattle.histories.specs.Faults.{CommitsOnce}
 use Rattle.histories.specs.Sound.{Sound}
 use Rattle.histories.proofs.OfTransactions.{of-found, of-hit, after-found, after-hit, first-of-found, first-of-some}
 

@@ -24,10 +24,6 @@ module _ (h : History) (e j : ℕ) where
   unfolding gives-write-order
   write-gives w = rw w refl
 
-  pub other-gives : h .is-write e ≡ false → gives-write-order h e j ≡ false
-  unfolding gives-write-order
-  other-gives w = rw w refl
-
   -- by reason 3: a real read, the writers after its source
   pub sourced-gives : (s : ℕ) → h .real e ≡ true → source h e ≡ some s → gives-read-before h e j ≡ writer-after h (h .item e) s j
   unfolding gives-read-before

@@ -4,5 +4,5 @@ pub mod Source
 pub mod Order
 pub mod Reasons
 pub mod Chapter
-pub mod Checked
+pub mod Faults
 pub mod Sound

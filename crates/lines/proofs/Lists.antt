@@ -1,5 +1,5 @@
 -- Laws of lists of numbers: what is among them, the place of a number, none twice, and that numbers of a set without one twice are no
--- more than the set has.
+-- more than the set has; and lists that are written one after the other.
 use Prim.Native.Nat.{ℕ, zero, suc, _+_, _<_, _≤_}
 use native.Mathlib.Omega.{arith}
 use native.Mathlib.Decide.{ℕ-discrete}
@@ -8,8 +8,8 @@ use mathlib.Core.Bool.{Bool, true, false, _||_}
 use mathlib.Core.Logic.{_⊎_, inl, inr, ⊎-elim}
 use mathlib.Core.List.{List, [], _∷_, _++_}
 use lib.Dec.{eqb}
-use lib.ListN.{length, take, getD, length-append}
-use lib.Seq.{getD-append-seam}
+use lib.ListN.{length, take, getD, set, length-append}
+use lib.Seq.{sets, getD-append-seam}
 use borrow.Author.Tests.{eq-eqb, ne-eqb, eqb-true}
 use Rattle.sets.specs.Search.{count-below, without}
 use Rattle.sets.proofs.Truth.{clash, refuted, or-cases, or-hit-left, or-hit-right, or-left, or-right, or-false}
@@ -184,3 +184,10 @@ pigeonhole n p (x ∷ xs) h m =
     others t a =
         let w = m t (among-later x xs t a) in
         (w .0, without-other p x t (λ (e : x ≡ t). differ (among xs) t x a (h .0) (sym e)) ∙ w .1)
+
+-- a list written after another
+pub sets-append : (xs ys to : List ℕ) (at : ℕ) → sets to at (xs ++ ys) ≡ sets (sets to at xs) (at + length xs) ys
+sets-append [] ys to at = ap (λ (k : ℕ). sets to k ys) (omega arith)
+sets-append (x ∷ xs) ys to at =
+    sets-append xs ys (set to at x) (suc at)
+    ∙ ap (λ (k : ℕ). sets (sets (set to at x) (suc at) xs) k ys) (omega arith)

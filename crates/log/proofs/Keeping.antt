@@ -17,9 +17,9 @@ use Rattle.sets.proofs.Truth.{clash, and-swap, and-always, and-nothing, or-noth
 use Rattle.sets.proofs.Searches.{some-more, some-zero, none-some, first-hit, first-stays}
 use Rattle.sets.proofs.Members.{has-zero}
 use Rattle.sets.proofs.Tables.{holds-none}
-use Rattle.sets.proofs.Passes.{added-store, set-none-below, set-below-more, set-below-stays, none-below, below-more, below-stays}
+use Rattle.sets.proofs.Gathered.{added-store, set-none-below, set-below-more, set-below-stays, none-below, below-more, below-stays}
 use Rattle.histories.specs.History.{is-by}
-use Rattle.histories.proofs.OfTransactions.{by-is}
+use Rattle.histories.proofs.OfTransactions.{by-is, own-added, none-added}
 use Rattle.rules.specs.LogHistory.{named, history-of}
 use Rattle.rules.specs.Record.{transactions, transaction, is-commit}
 use Rattle.log.specs.Kept.{KeptWriters, KeptCommits, KeptNames}
@@ -43,9 +43,7 @@ module _ (log : List ℕ) (writes : ℕ → ℕ → Bool) (wide : ℕ) where
 
     -- a record that writes nothing adds nothing
     pub writers-stay : ((c : ℕ) → writes k c ≡ false) → KeptWriters log writes wide (k + 1) table
-    writers-stay e =
-        below-stays wide says-writer k w
-        (λ c t. ap (λ (b : Bool). is-by (history-of log) k t && b) (e c) ∙ and-nothing (is-by (history-of log) k t))
+    writers-stay e = below-stays wide says-writer k w (λ c t. none-added (history-of log) k (writes k c) (e c) t)
 
 -- commits
 module _ (log : List ℕ) where
@@ -58,17 +56,10 @@ module _ (log : List ℕ) where
   module _ (k commits : ℕ) (w : KeptCommits log k commits) where
     pub commits-add : (t v : ℕ) → is-commit log k ≡ true → t ≡ transaction log k → ((i : ℕ) → has v i ≡ (has commits i || eqb t i))
         → KeptCommits log (k + 1) v
-    commits-add t v e q h =
-        set-below-more says-commit k w v
-        (λ i. h i ∙ ap (λ (b : Bool). has commits i || b) (ap (λ (x : ℕ). eqb x i) q ∙ sym (by-is (history-of log) k i) ∙ sym (counts i)))
-      where
-        counts : (i : ℕ) → (is-by (history-of log) k i && is-commit log k) ≡ is-by (history-of log) k i
-        counts i = ap (λ (b : Bool). is-by (history-of log) k i && b) e ∙ and-always (is-by (history-of log) k i)
+    commits-add t v e q h = set-below-more says-commit k w v (own-added (history-of log) k (is-commit log k) t v commits e q h)
 
     pub commits-stay : is-commit log k ≡ false → KeptCommits log (k + 1) commits
-    commits-stay e =
-        set-below-stays says-commit k w
-        (λ t. ap (λ (b : Bool). is-by (history-of log) k t && b) e ∙ and-nothing (is-by (history-of log) k t))
+    commits-stay e = set-below-stays says-commit k w (none-added (history-of log) k (is-commit log k) e)
 
 -- names
 pub names-start : (log : List ℕ) → KeptNames log 0 0 (replicate transactions 0)

@@ -10,7 +10,7 @@ use Rattle.sets.specs.Bits.{has}
 use Rattle.sets.proofs.Truth.{either, and-nothing}
 use Rattle.sets.proofs.Searches.{some-none, none-some}
 use Rattle.sets.proofs.Members.{has-zero, no-member}
-use Rattle.histories.specs.Checked.{after-commit, reads-unwritten, reads-past-own}
+use Rattle.histories.specs.Faults.{after-commit, reads-unwritten, reads-past-own}
 use Rattle.histories.specs.Earlier.{some-before, committed, wrote-copy, wrote-item}
 use Rattle.histories.specs.History.{is-by, writes-copy}
 use Rattle.histories.specs.Source.{shows, is-written}

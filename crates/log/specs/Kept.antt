@@ -8,7 +8,7 @@ use lib.Dec.{eqb}
 use lib.ListN.{length, getD}
 use Rattle.sets.specs.Search.{first-below}
 use Rattle.sets.specs.Bits.{has}
-use Rattle.sets.specs.Passes.{SetBelow, TableBelow}
+use Rattle.sets.specs.Gathered.{SetBelow, TableBelow}
 use Rattle.histories.specs.History.{is-by, writes-copy, writes-item}
 use Rattle.rules.specs.LogHistory.{named, history-of}
 use Rattle.rules.specs.Record.{transactions, items, sites, transaction, is-commit}

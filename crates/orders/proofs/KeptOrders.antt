@@ -9,11 +9,11 @@ use Rattle.sets.specs.Search.{some-below, some-from}
 use Rattle.sets.specs.Bits.{has, Holds}
 use Rattle.sets.proofs.Truth.{same-truth, and-always, and-nothing}
 use Rattle.sets.proofs.Tables.{holds-same}
-use Rattle.sets.proofs.Passes.{set-none-from, set-from-more, set-from-stays, set-all-from}
+use Rattle.sets.proofs.Gathered.{set-none-from, set-from-more, set-from-stays, set-all-from}
 use Rattle.histories.specs.History.{is-by, writes-item}
 use Rattle.histories.specs.Earlier.{some-before, some-of, some-after, wrote-item, writes}
 use Rattle.histories.specs.Reasons.{gives-write-order, gives-read-before, write-order, read-before}
-use Rattle.histories.proofs.OfTransactions.{by-is, before-found, before-hit, first-of-found}
+use Rattle.histories.proofs.OfTransactions.{own-added, none-added, before-found, before-hit, first-of-found}
 use Rattle.histories.proofs.Orders.{order-by-commits}
 use Rattle.rules.specs.LogHistory.{in-log, history-of}
 use Rattle.rules.specs.Record.{transactions, items, transaction, records, is-commit}
@@ -32,17 +32,10 @@ module _ (log : List ℕ) where
 
   module _ (k : ℕ) (l : k < records log) {later : ℕ} (w : LaterCommits log (k + 1) later) where
     pub commits-add : (t v : ℕ) → is-commit log k ≡ true → t ≡ transaction log k → ((j : ℕ) → has v j ≡ (has later j || eqb t j)) → LaterCommits log k v
-    commits-add t v e q h =
-        set-from-more says-commit (records log) k l w v
-        (λ j. h j ∙ ap (λ (b : Bool). has later j || b) (ap (λ (x : ℕ). eqb x j) q ∙ sym (by-is (history-of log) k j) ∙ sym (counts j)))
-      where
-        counts : (j : ℕ) → (is-by (history-of log) k j && is-commit log k) ≡ is-by (history-of log) k j
-        counts j = ap (λ (b : Bool). is-by (history-of log) k j && b) e ∙ and-always (is-by (history-of log) k j)
+    commits-add t v e q h = set-from-more says-commit (records log) k l w v (own-added (history-of log) k (is-commit log k) t v later e q h)
 
     pub commits-stay : is-commit log k ≡ false → LaterCommits log k later
-    commits-stay e =
-        set-from-stays says-commit (records log) k l w
-        (λ j. ap (λ (b : Bool). is-by (history-of log) k j && b) e ∙ and-nothing (is-by (history-of log) k j))
+    commits-stay e = set-from-stays says-commit (records log) k l w (none-added (history-of log) k (is-commit log k) e)
 
   -- a commit stands before all that are kept, and no other record stands before a commit
   pub earlier-commit-kept : (k later j : ℕ) → LaterCommits log (k + 1) later → is-commit log k ≡ true → has later j ≡ is-earlier-commit log k j

@@ -5,7 +5,7 @@ use mathlib.Core.List.{List}
 use mathlib.Core.Bool.{Bool, _&&_}
 use lib.ListN.{length}
 use Rattle.sets.specs.Bits.{in-row, Holds}
-use Rattle.sets.specs.Passes.{SetFrom}
+use Rattle.sets.specs.Gathered.{SetFrom}
 use Rattle.histories.specs.History.{is-by, writes-item}
 use Rattle.histories.specs.Earlier.{some-after, writes}
 use Rattle.histories.specs.Order.{comes-before}

@@ -9,11 +9,11 @@ use lib.Dec.{eqb}
 use borrow.Author.Tests.{ltb-false, eqb-true, eq-eqb, not-false}
 use Rattle.sets.proofs.Searches.{some-found, some-hit}
 use Rattle.histories.specs.Earlier.{committed}
-use Rattle.histories.specs.Checked.{Checked}
+use Rattle.histories.specs.Faults.{Faultless}
 use Rattle.histories.specs.Source.{shows}
 use Rattle.histories.specs.History.{writes-copy}
 use Rattle.histories.proofs.Sources.{sourced}
-use Rattle.histories.proofs.Checked.{commits-once, checked-sound}
+use Rattle.histories.proofs.Faults.{commits-once, faultless-sound}
 use Rattle.rules.specs.Answer.{passed}
 use Rattle.rules.specs.Rows.{NoneOf}
 use Rattle.rules.specs.Record.{Within, record-bytes, transactions, sites, most-records, most-bytes, transaction, item, site, records}
@@ -67,8 +67,8 @@ module _ (log : List ℕ) where
     unfolding never-commits
     has-committed t b = not-false (committed (history-of log) t (records log)) (rw b at (no-9 log none-of t (in-log-low limits t b)))
 
-    checked-log : Checked (history-of log)
-    checked-log =
+    faultless-log : Faultless (history-of log)
+    faultless-log =
         record {
           no-6 = no-6 log none-of;
           no-7 = no-7 log none-of;
@@ -96,7 +96,7 @@ module _ (log : List ℕ) where
           few = few-records;
           in-limits = limits;
           commits-once = commits-once (history-of log) (no-6 log none-of);
-          sound = checked-sound (history-of log) checked-log;
+          sound = faultless-sound (history-of log) faultless-log;
         }
 
   -- and so of every log that the check passes

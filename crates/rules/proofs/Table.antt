@@ -3,9 +3,9 @@ use Prim.Native.Nat.{ℕ, _<_}
 use mathlib.Core.Path.{_≡_, _∙_}
 use mathlib.Core.List.{List, [], _∷_, _++_}
 use mathlib.Core.Bool.{true, false, not}
-use Rattle.histories.specs.Checked.{after-commit, reads-unwritten, reads-past-own}
+use Rattle.histories.specs.Faults.{after-commit, reads-unwritten, reads-past-own}
 use Rattle.histories.specs.History.{History}
-use Rattle.histories.proofs.Checked.{not-unwritten, not-past-own}
+use Rattle.histories.proofs.Faults.{not-unwritten, not-past-own}
 use Rattle.rules.specs.Answer.{refused, passed}
 use Rattle.rules.specs.Rows.{row, answer-of, over, NoneOf}
 use Rattle.rules.specs.Record.{Within, transactions, kind, transaction, item, site, records}

@@ -3,7 +3,7 @@ use Prim.Native.Nat.{ℕ, _*_, _<_, _≤_}
 use mathlib.Core.Path.{_≡_}
 use mathlib.Core.List.{List}
 use lib.ListN.{length}
-use Rattle.histories.specs.Checked.{CommitsOnce}
+use Rattle.histories.specs.Faults.{CommitsOnce}
 use Rattle.histories.specs.Sound.{Sound}
 use Rattle.rules.specs.Record.{Within, record-bytes, most-records, records}
 use Rattle.rules.specs.LogHistory.{history-of}

@@ -8,7 +8,7 @@ use lib.Dec.{eqb, ltb}
 use Rattle.sets.specs.Search.{first-below}
 use Rattle.histories.specs.History.{History}
 use Rattle.histories.specs.Earlier.{committed}
-use Rattle.histories.specs.Checked.{after-commit, reads-unwritten, reads-past-own}
+use Rattle.histories.specs.Faults.{after-commit, reads-unwritten, reads-past-own}
 use Rattle.rules.specs.Answer.{Answer}
 use Rattle.rules.specs.Rows.{Row, row, answer-of, over, one-each}
 use Rattle.rules.specs.Record.{record-bytes, transactions, most-bytes, kind, transaction, item, site, records}

@@ -1,5 +1,5 @@
 -- Laws of the count of the numbers below n that pass a test: at most n, none where nothing passes, and one less where one of them is taken
--- out; and of a test with one taken out. Assumes nothing.
+-- out; and of a test with one taken out.
 use Prim.Native.Nat.{ℕ, zero, suc, _+_, _<_, _≤_}
 use native.Mathlib.Omega.{arith}
 use mathlib.Core.Path.{_≡_, refl, sym, _∙_, ap, ap₂}

@@ -1,5 +1,5 @@
 -- Laws of a search from k on: what a hit says and how to show one, nothing at the end, everything at 0, the step of a loop that
--- counts down, and what the first one is. Assumes nothing.
+-- counts down, and what the first one is.
 use Prim.Native.Nat.{ℕ, _+_, _<_, _≤_}
 use native.Mathlib.Omega.{arith}
 use native.Mathlib.Decide.{ℕ-discrete}

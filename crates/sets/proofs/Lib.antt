@@ -3,7 +3,7 @@ pub mod Searches
 pub mod From
 pub mod Members
 pub mod Tables
-pub mod Passes
+pub mod Gathered
 pub mod Counts
 pub mod Lowest
 pub mod Paths

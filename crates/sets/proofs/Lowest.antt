@@ -1,5 +1,5 @@
 -- The zeros below the lowest 1 of a number are the numbers below the lowest member of the set; so it is found from k on by dropping the k
--- lowest digits. Assumes nothing.
+-- lowest digits.
 use Prim.Native.Nat.{ℕ, zero, suc, _+_, _-_, _<_, _≤_, _/_, _%_, _^_}
 use native.Mathlib.Omega.{arith}
 use native.Mathlib.Decide.{decLt}

@@ -1,5 +1,5 @@
 -- Laws of the sets of numbers below 64: a bit of 0, of a power of two, of an or and of an and; with a number added or taken out; and that
--- sets with the same members are one number. Assumes nothing.
+-- sets with the same members are one number.
 use Prim.Native.Nat.{ℕ, zero, suc, _+_, _*_, _-_, _<_, _≤_, _/_, _%_, _^_, max, min}
 use native.Mathlib.Nat.{zero-div, div-eq-of-lt, div-self, pow-suc, mul-mod-left, one-mul, lt-of-lt-of-le}
 use native.Mathlib.Decide.{ℕ-discrete, decLt}

@@ -1,5 +1,5 @@
 -- Laws of the searches below n, each by going through the numbers one by one: what a hit and a miss say, how to show one, and
--- the step from n to n + 1 that a counting loop takes. Assumes nothing.
+-- the step from n to n + 1 that a counting loop takes.
 use Prim.Native.Nat.{ℕ, zero, suc, _+_, _-_, _<_, _≤_}
 use native.Mathlib.Numerals.{add-one}
 use native.Mathlib.Omega.{arith}

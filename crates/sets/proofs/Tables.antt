@@ -1,5 +1,5 @@
 -- Laws of tables of sets: what a store does to the relation that a table holds, the table of a relation, and that a relation has
--- only one table. Assumes nothing.
+-- only one table.
 use Prim.Native.Nat.{ℕ, zero, suc, _+_, _*_, _<_, _≤_, _^_}
 use native.Mathlib.Omega.{arith}
 use native.Mathlib.Numerals.{add-one}

@@ -1,4 +1,4 @@
--- Laws of tests: their two cases, conjunctions and disjunctions. Assumes nothing.
+-- Laws of tests: their two cases, conjunctions and disjunctions.
 use mathlib.Core.Path.{_≡_, refl, sym, _∙_, ap}
 use mathlib.Core.Bool.{Bool, true, false, _&&_, _||_, true≢false}
 use mathlib.Core.Logic.{_⊎_, inl, inr}
@@ -79,11 +79,3 @@ and-nothing false = refl
 pub and-always : (a : Bool) → (a && true) ≡ a
 and-always true = refl
 and-always false = refl
-
--- the step of what is kept: a test that gains "this one, if it counts" gains this one where it counts, and stays where it does not
-pub gained : (old this counts : Bool) {new : Bool} → counts ≡ true → new ≡ (old || (this && counts)) → (old || this) ≡ new
-gained old this counts c e = sym (e ∙ ap (λ (b : Bool). old || (this && b)) c ∙ ap (λ (b : Bool). old || b) (and-always this))
-
-pub stayed : (old this counts : Bool) {new : Bool} → counts ≡ false → new ≡ (old || (this && counts)) → old ≡ new
-stayed old this counts c e =
-    sym (e ∙ ap (λ (b : Bool). old || (this && b)) c ∙ ap (λ (b : Bool). old || b) (and-nothing this) ∙ or-nothing old)

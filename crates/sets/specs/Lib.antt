@@ -1,4 +1,4 @@
 pub mod Search
 pub mod Bits
 pub mod Paths
-pub mod Passes
+pub mod Gathered

@@ -10,15 +10,8 @@ use native.Mathlib.Decide.{ℕ-discrete}
 use lib.ListN.{length, take, drop, getD, set, length-drop}
 use lib.Seq.{sets, slice, sets-eq, take-at, length-slice, slice-empty, take-suc, getD-take, getD-drop, drop-append-le, length-take-le}
 use Rattle.lines.specs.Rule.{among, place-of, lowest-member}
-use Rattle.lines.proofs.Lists.{place-low, place-entry, place-before}
+use Rattle.lines.proofs.Lists.{place-low, place-entry, place-before, sets-append}
 use Rattle.lines.proofs.Turned.{lowest-place-is}
-
--- a list written after another
-pub sets-append : (xs ys to : List ℕ) (at : ℕ) → sets to at (xs ++ ys) ≡ sets (sets to at xs) (at + length xs) ys
-sets-append [] ys to at = ap (λ (k : ℕ). sets to k ys) (omega arith)
-sets-append (x ∷ xs) ys to at =
-    sets-append xs ys (set to at x) (suc at)
-    ∙ ap (λ (k : ℕ). sets (sets (set to at x) (suc at) xs) k ys) (omega arith)
 
 -- a part grows by one
 slice-more : (from : List ℕ) (start k : ℕ) → start ≤ k → k < length from

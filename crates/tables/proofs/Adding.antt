@@ -7,11 +7,12 @@ use mathlib.Core.Bool.{Bool, true, false, _&&_, _||_}
 use lib.Dec.{eqb}
 use lib.ListN.{replicate}
 use Rattle.sets.specs.Bits.{has, in-row, Holds}
-use Rattle.sets.proofs.Truth.{or-nothing, and-nothing}
+use Rattle.sets.proofs.Truth.{or-nothing}
 use Rattle.sets.proofs.Tables.{holds-same, holds-none}
-use Rattle.sets.proofs.Passes.{none-from, all-from, from-more, from-stays}
+use Rattle.sets.proofs.Gathered.{none-from, all-from, from-more, from-stays}
 use Rattle.histories.specs.History.{is-by}
 use Rattle.histories.specs.Earlier.{some-before, some-of}
+use Rattle.histories.proofs.OfTransactions.{none-added}
 use Rattle.rules.specs.LogHistory.{history-of}
 use Rattle.rules.specs.Record.{transactions, records, is-write}
 use Rattle.tables.specs.Kept.{Empty, LaterSets, LaterRows, AddedOwn, AddedWriter, AddedToRow}
@@ -85,8 +86,7 @@ module _ (log : List ℕ) where
 
       pub rows-stay : ((j : ℕ) → says k j ≡ false) → LaterRows log says k table
       rows-stay f =
-          from-stays transactions says-row (records log) k l w
-          (λ i j. ap (λ (b : Bool). is-by (history-of log) k i && b) (f j) ∙ and-nothing (is-by (history-of log) k i))
+          from-stays transactions says-row (records log) k l w (λ i j. none-added (history-of log) k (says k j) (f j) i)
 
     -- once the whole log is read
     pub rows-whole : {table : List ℕ} → LaterRows log says 0 table → Holds transactions (λ i j. some-of (history-of log) i (λ e. says e j)) table

@@ -5,7 +5,7 @@ use mathlib.Core.List.{List}
 use mathlib.Core.Bool.{Bool, false, _&&_}
 use lib.Dec.{eqb}
 use Rattle.sets.specs.Bits.{has, Holds}
-use Rattle.sets.specs.Passes.{TableFrom, Added}
+use Rattle.sets.specs.Gathered.{TableFrom, Added}
 use Rattle.histories.specs.History.{is-by}
 use Rattle.rules.specs.LogHistory.{history-of}
 use Rattle.rules.specs.Record.{transactions, records, is-write}

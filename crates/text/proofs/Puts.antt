@@ -6,7 +6,7 @@ use mathlib.Core.Path.{_≡_, refl, sym, _∙_, ap, ap₂, subst}
 use mathlib.Core.List.{List, [], _∷_, _++_}
 use lib.ListN.{length, take, getD, set, length-append}
 use lib.Seq.{sets, length-sets, take-suc, length-take-le, take-length}
-use Rattle.sort.proofs.Parts.{sets-append}
+use Rattle.lines.proofs.Lists.{sets-append}
 use Rattle.text.specs.Kept.{Put}
 
 -- one more of the bytes is written

@@ -6,7 +6,7 @@ use mathlib.Core.Path.{_≡_, refl, sym, _∙_, ap}
 use mathlib.Core.List.{List, [], _∷_}
 use lib.ListN.{length, set}
 use lib.Seq.{sets, length-sets}
-use Rattle.sort.proofs.Parts.{sets-append}
+use Rattle.lines.proofs.Lists.{sets-append}
 use Rattle.answers.specs.Verdict.{record-size, pairs}
 use Rattle.answers.proofs.AnswerRecords.{length-pairs}
 

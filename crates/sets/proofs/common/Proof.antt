@@ -1,4 +1,4 @@
--- `sets::common` meets its contract: a bit of an and. Assumes nothing.
+-- `sets::common` meets its contract: a bit of an and.
 use Rattle.sets.proofs.Members.{has-and}
 use Rattle.sets.proofs.common.Statement.{statement}
 use Rattle.sets.proofs.common.Tie as tie

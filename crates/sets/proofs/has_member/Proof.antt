@@ -1,4 +1,4 @@
--- `sets::has_member` meets its contract: the test is the definition of `has`. Assumes nothing.
+-- `sets::has_member` meets its contract: the test is the definition of `has`.
 use borrow.Author.Needs.{needs}
 use Rattle.sets.specs.Bits.{has}
 use Rattle.sets.proofs.has_member.Statement.{statement}

@@ -1,4 +1,4 @@
--- `sets::member_from` meets its contract: the lowest 1 of what is above leads to the member, by the laws in Lowest. Assumes nothing.
+-- `sets::member_from` meets its contract: the lowest 1 of what is above leads to the member, by the laws in Lowest.
 use borrow.Author.Needs.{needs}
 use native.Mathlib.Omega.{arith}
 use mathlib.Core.Path.{sym}

@@ -1,4 +1,4 @@
--- `sets::only_if` meets its contract: the set, or the empty one. Assumes nothing.
+-- `sets::only_if` meets its contract: the set, or the empty one.
 use mathlib.Core.Path.{sym, _∙_, ap}
 use mathlib.Core.Bool.{Bool, _&&_}
 use Rattle.sets.specs.Bits.{has}

@@ -1,4 +1,4 @@
--- `sets::union` meets its contract: a bit of an or. Assumes nothing.
+-- `sets::union` meets its contract: a bit of an or.
 use Rattle.sets.proofs.Members.{has-or}
 use Rattle.sets.proofs.union.Statement.{statement}
 use Rattle.sets.proofs.union.Tie as tie

@@ -1,4 +1,4 @@
--- `sets::with_member` meets its contract: 1 shifted by i is 2 to the i, which fits, and or-ing it in adds i. Assumes nothing.
+-- `sets::with_member` meets its contract: 1 shifted by i is 2 to the i, which fits, and or-ing it in adds i.
 use borrow.Author.Needs.{needs}
 use Prim.Native.Nat.{ℕ}
 use mathlib.Core.Path.{ap, _∙_}

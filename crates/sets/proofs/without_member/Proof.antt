@@ -1,4 +1,4 @@
--- `sets::without_member` meets its contract: i is put in and then turned over. Assumes nothing.
+-- `sets::without_member` meets its contract: i is put in and then turned over.
 use borrow.Author.Needs.{needs}
 use Prim.Native.Nat.{ℕ}
 use mathlib.Core.Path.{ap, _∙_}

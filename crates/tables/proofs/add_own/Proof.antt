@@ -7,7 +7,7 @@ use mathlib.Core.Bool.{Bool, true, false, _&&_, _||_}
 use denote.Ref.{now}
 use Rattle.sets.specs.Bits.{has, in-row}
 use Rattle.sets.proofs.Members.{has-zero}
-use Rattle.sets.proofs.Passes.{added-store}
+use Rattle.sets.proofs.Gathered.{added-store}
 use Rattle.histories.specs.History.{is-by}
 use Rattle.histories.proofs.OfTransactions.{by-is}
 use Rattle.rules.specs.LogHistory.{history-of}

@@ -7,7 +7,7 @@ use mathlib.Core.Bool.{Bool, _&&_}
 use denote.Ref.{now}
 use Rattle.sets.specs.Bits.{has}
 use Rattle.histories.specs.History.{is-by}
-use Rattle.sets.proofs.Passes.{added-store}
+use Rattle.sets.proofs.Gathered.{added-store}
 use Rattle.histories.proofs.OfTransactions.{by-is}
 use Rattle.rules.specs.LogHistory.{history-of}
 use Rattle.tables.proofs.add_to_row.Statement.{statement}

@@ -1,5 +1,5 @@
 -- `format::form::form_answer` meets its contract: in each arm the law for its kinds says which ranges are asked, and the arms'
--- own tests answer them. Assumes nothing.
+-- own tests answer them.
 use borrow.Author.Needs.{needs}
 use borrow.Author.Tests.{lt-ltb, le-ltb, eq-eqb, ne-eqb}
 use native.Mathlib.Omega.{arith}

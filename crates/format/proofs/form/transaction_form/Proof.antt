@@ -1,4 +1,4 @@
--- `format::form::transaction_form` meets its contract: its range is the test. Assumes nothing.
+-- `format::form::transaction_form` meets its contract: its range is the test.
 use borrow.Author.Tests.{lt-ltb, le-ltb}
 use Rattle.format.proofs.form.transaction_form.Statement.{statement}
 use Rattle.format.proofs.form.transaction_form.Tie as tie

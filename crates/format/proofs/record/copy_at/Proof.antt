@@ -1,5 +1,4 @@
 -- `format::record::copy_at` meets its contract: the number is made of the record's item and site, which are within their limits.
--- Assumes nothing.
 use borrow.Author.Needs.{needs}
 use mathlib.Core.Path.{_∙_, ap₂}
 use Rattle.rules.specs.Record.{copy-number, copy-of}

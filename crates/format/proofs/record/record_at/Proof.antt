@@ -1,5 +1,4 @@
 -- `format::record::record_at` meets its contract: the four bytes stand within the log, and are what the definitions name.
--- Assumes nothing.
 use borrow.Author.Needs.{needs}
 use native.Mathlib.Omega.{arith}
 use Rattle.rules.specs.Record.{kind, transaction, item, site, records}

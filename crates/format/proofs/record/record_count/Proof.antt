@@ -1,4 +1,4 @@
--- `format::record::record_count` meets its contract: the code is the definition. Assumes nothing.
+-- `format::record::record_count` meets its contract: the code is the definition.
 use borrow.Author.Needs.{needs}
 use Rattle.rules.specs.Record.{records}
 use Rattle.format.proofs.record.record_count.Statement.{statement}

@@ -4,7 +4,7 @@ use mathlib.Core.Path.{_≡_, _∙_, sym}
 use mathlib.Core.List.{List}
 use Prim.Native.Nat.{ℕ}
 use denote.Ref.{now}
-use Rattle.histories.specs.Checked.{after-commit}
+use Rattle.histories.specs.Faults.{after-commit}
 use Rattle.rules.specs.LogHistory.{history-of}
 use Rattle.rules.proofs.KindBytes.{byte-is, byte-is-not, read-byte}
 use Rattle.rules.proofs.Table.{gives-6, skips-6, other-passes}

@@ -9,7 +9,7 @@ use Prim.Native.Nat.{ℕ}
 use lib.ListN.{getD}
 use denote.Ref.{now}
 use Rattle.sets.specs.Bits.{has}
-use Rattle.histories.specs.Checked.{reads-unwritten, reads-past-own}
+use Rattle.histories.specs.Faults.{reads-unwritten, reads-past-own}
 use Rattle.rules.specs.LogHistory.{history-of}
 use Rattle.rules.proofs.Table.{gives-7, gives-8, gives-none}
 use Rattle.log.proofs.TestsKept.{unwritten-kept, written-kept, past-kept}

@@ -1,5 +1,5 @@
 -- `format::record::Copy::number` meets its contract: the code is the definition, and an item and a site within their limits keep the
--- number within its own. Assumes nothing.
+-- number within its own.
 use borrow.Author.Needs.{needs}
 use native.Mathlib.Omega.{arith}
 use mathlib.Core.Path.{refl}

@@ -8,7 +8,7 @@ use lib.Dec.{eqb}
 use lib.ListN.{length, getD, set}
 use Rattle.sets.specs.Search.{some-below, some-from}
 use Rattle.sets.specs.Bits.{has, in-row, Holds}
-use Rattle.sets.specs.Passes.{SetBelow, SetFrom, TableBelow, TableFrom, Added}
+use Rattle.sets.specs.Gathered.{SetBelow, SetFrom, TableBelow, TableFrom, Added}
 use Rattle.sets.proofs.Truth.{or-nothing}
 use Rattle.sets.proofs.Searches.{some-zero, some-more}
 use Rattle.sets.proofs.From.{from-end, from-start, from-step}

@@ -1,4 +1,4 @@
--- A history that has been checked is sound, and no transaction of it commits twice.
+-- A history without faults is sound, and no transaction of it commits twice.
 use Prim.Native.Nat.{ℕ, _<_}
 use mathlib.Core.Path.{_≡_, refl, sym, _∙_}
 use mathlib.Core.Bool.{true, false, not}
@@ -8,7 +8,7 @@ use Rattle.sets.proofs.Searches.{only-between}
 use Rattle.histories.specs.History.{History, Counts}
 use Rattle.histories.specs.Earlier.{committed, wrote-copy, wrote-item}
 use Rattle.histories.specs.Source.{is-written}
-use Rattle.histories.specs.Checked.{after-commit, reads-unwritten, reads-past-own, CommitsOnce, Checked}
+use Rattle.histories.specs.Faults.{after-commit, reads-unwritten, reads-past-own, CommitsOnce, Faultless}
 use Rattle.histories.specs.Sound.{Commits, HasSource, Sound}
 use Rattle.histories.proofs.OfTransactions.{before-found, before-hit, first-of-some}
 use Rattle.histories.proofs.Sources.{source-of, written-sourced}
@@ -45,7 +45,7 @@ module _ (h : History) where
   unfolding reads-past-own
   read-own k b r w = not-false (wrote-copy h (h .transaction k) (h .copy k) k) (rw (r, w) at b)
 
-  module _ (w : Checked h) where
+  module _ (w : Faultless h) where
     its-commit : (t : ℕ) → h .takes-part t ≡ true → Commits h t
     unfolding committed
     its-commit t p =
@@ -58,9 +58,9 @@ module _ (h : History) where
         let s = written-sourced h k r (read-written k (w .no-7 k (c .there)) r) in
         record { origin = h .transaction (s .at); from = source-of h k (s .at) (s .found); part = w .source-part k (s .at) c (s .found) }
 
-    -- THEOREM: what has been checked is sound
-    pub checked-sound : Sound h
-    checked-sound =
+    -- THEOREM: a history without faults is sound
+    pub faultless-sound : Sound h
+    faultless-sound =
         record {
           commits = its-commit;
           has-source = its-source;

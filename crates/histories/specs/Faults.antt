@@ -1,5 +1,5 @@
--- What the checks ask of single records that look at the records before: numbers 6 to 8 of document 01's table. A history in which none
--- of them applies, and what else the checks say of it.
+-- Faults of a record that are seen by the records before it: numbers 6 to 8 of document 01's table. A history without them, and what else the
+-- checks say of it.
 use Prim.Native.Nat.{ℕ, _<_}
 use mathlib.Core.Path.{_≡_}
 use mathlib.Core.Bool.{Bool, true, false, not, _&&_}
@@ -27,7 +27,7 @@ module _ (h : History) where
   CommitsOnce =
       (c d : ℕ) → c < h .size → d < h .size → h .is-commit c ≡ true → h .is-commit d ≡ true → h .transaction c ≡ h .transaction d → c ≡ d
 
-  pub record Checked : Type 0 where
+  pub record Faultless : Type 0 where
     pub no-6 : (k : ℕ) → k < h .size → after-commit k ≡ false
     pub no-7 : (k : ℕ) → k < h .size → reads-unwritten k ≡ false
     pub no-8 : (k : ℕ) → k < h .size → reads-past-own k ≡ false

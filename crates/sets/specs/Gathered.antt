@@ -1,4 +1,4 @@
--- What a pass over numbers keeps of what they say, in a set or in a table of sets: a pass forward has met those below k, a pass from the
+-- What a pass over numbers has gathered of what they say, in a set or in a table of sets: a pass forward has met those below k, a pass from the
 -- end of n numbers those from k on.
 use Prim.Native.Nat.{ℕ}
 use mathlib.Core.Path.{_≡_}
