@@ -14,8 +14,7 @@ use Rattle.rules.specs.Questions.{members}
 use Rattle.rules.specs.Record.{transactions}
 use Rattle.rules.specs.Passes.{Passes}
 use Rattle.rules.proofs.Graphs.{members-hold}
-use Rattle.lines.specs.Rule.{LineOrCycle, line, cycle, members-of, length-of, sorted}
-use Rattle.lines.proofs.Outcomes.{line-of, cycle-of}
+use Rattle.lines.specs.Rule.{LineOrCycle, line, cycle, members-of, sorted}
 use Rattle.answers.specs.Verdict.{entry, pairs, round-to, line-or-cycle, line-records, cycle-records, answer-records}
 use Rattle.verdict.specs.Kept.{Low, Along}
 use Rattle.answers.proofs.AnswerRecords.{pairs-same, round-low, line-records-are, cycle-records-are, ordered-fits, ordered-low}
@@ -58,43 +57,49 @@ module _ (xs blank : List ℕ) (fits : length xs ≤ length blank) where
           ∙ ap₂ lowest (in-front k l) (in-front (round-to (length xs) k) (round-low (length xs) k l))
           ∙ same (entry xs k) (entry xs (round-to (length xs) k))
 
--- so what is written for a log that passes are the records of its answer
-module _ (log : List ℕ) (sound : Passes log) (n : ℕ) (old blank buffer seconds : List ℕ) (whole : length blank ≡ transactions)
-    (sorted-in : buffer ≡ sets blank 0 (members-of (line-or-cycle log)))
-  where
-    abbrev o : LineOrCycle (List ℕ)
-    o = line-or-cycle log
+-- what stands in the sort's buffer: the n members of the line or the cycle of a log that passes
+pub record InBuffer (log blank buffer : List ℕ) (n : ℕ) : Type 0 where
+  pub sound : Passes log
+  pub whole : length blank ≡ transactions
+  pub holds : buffer ≡ sets blank 0 (members-of (line-or-cycle log))
+  pub counted : n ≡ length (members-of (line-or-cycle log))
 
-    abbrev xs : List ℕ
-    xs = members-of o
+-- so what is written from there are the records of the answer
+module _ {log blank buffer : List ℕ} {n : ℕ} (w : InBuffer log blank buffer n) where
+  abbrev o : LineOrCycle (List ℕ)
+  o = line-or-cycle log
 
-    fits : length xs ≤ length blank
-    fits = rw whole (ordered-fits log sound)
+  abbrev xs : List ℕ
+  xs = members-of o
 
+  fits : length xs ≤ length blank
+  fits = rw (w .whole) (ordered-fits log (w .sound))
+
+  pub counted-low : n ≤ transactions
+  counted-low = rw (w .counted) (ordered-fits log (w .sound))
+
+  -- the first n of the buffer are transactions
+  pub first-low : Low n buffer
+  first-low = subst₂ (λ (m : ℕ) (ys : List ℕ). Low m ys) (sym (w .counted)) (sym (w .holds)) low
+    where
+      low : Low (length xs) (sets blank 0 xs)
+      low k l = rw (in-front xs blank fits k l) (ordered-low log (w .sound) k l)
+
+  module _ (old seconds : List ℕ) where
     -- n is the number of members
-    by-length : n ≡ length xs
-        → sets old 0 (pairs n (entry buffer) (entry seconds)) ≡ sets old 0 (pairs (length xs) (entry (sets blank 0 xs)) (entry seconds))
-    by-length e = ap₂ (λ (m : ℕ) (ys : List ℕ). sets old 0 (pairs m (entry ys) (entry seconds))) e sorted-in
+    by-length : sets old 0 (pairs n (entry buffer) (entry seconds)) ≡ sets old 0 (pairs (length xs) (entry (sets blank 0 xs)) (entry seconds))
+    by-length = ap₂ (λ (m : ℕ) (ys : List ℕ). sets old 0 (pairs m (entry ys) (entry seconds))) (w .counted) (w .holds)
 
-    pub line-answer : line n ≡ length-of o → ((k : ℕ) → entry seconds k ≡ 0)
+    pub line-answer : o ≡ line xs → ((k : ℕ) → entry seconds k ≡ 0)
         → sets old 0 (pairs n (entry buffer) (entry seconds)) ≡ sets old 0 (answer-records log (gives o))
-    line-answer e none =
-        let is = line-of n o e in
-        by-length (is .counted)
-        ∙ ap (sets old 0) (line-written xs blank fits seconds none ∙ sym (ap (λ (a : LineOrCycle (List ℕ)). answer-records log (gives a)) (is .is-one)))
+    line-answer is none =
+        by-length
+        ∙ ap (sets old 0) (line-written xs blank fits seconds none ∙ sym (ap (λ (a : LineOrCycle (List ℕ)). answer-records log (gives a)) is))
 
-    pub cycle-answer : cycle n ≡ length-of o → (lowest : ℕ → ℕ → ℕ) → ((i j : ℕ) → lowest i j ≡ reason (history-of log) i j) → Along lowest buffer n n seconds
+    pub cycle-answer : o ≡ cycle xs → (lowest : ℕ → ℕ → ℕ) → ((i j : ℕ) → lowest i j ≡ reason (history-of log) i j) → Along lowest buffer n n seconds
         → sets old 0 (pairs n (entry buffer) (entry seconds)) ≡ sets old 0 (answer-records log (gives o))
-    cycle-answer e lowest same w =
-        let is = cycle-of n o e in
-        let along = subst₂ (λ (m : ℕ) (ys : List ℕ). Along lowest ys m m seconds) (is .counted) sorted-in w in
-        by-length (is .counted)
+    cycle-answer is lowest same v =
+        let along = subst₂ (λ (m : ℕ) (ys : List ℕ). Along lowest ys m m seconds) (w .counted) (w .holds) v in
+        by-length
         ∙ ap (sets old 0)
-        (cycle-written xs blank fits log seconds lowest same along ∙ sym (ap (λ (a : LineOrCycle (List ℕ)). answer-records log (gives a)) (is .is-one)))
-
-    -- the first n of the buffer are transactions
-    pub first-low : n ≡ length xs → Low n buffer
-    first-low e = subst₂ (λ (m : ℕ) (ys : List ℕ). Low m ys) (sym e) (sym sorted-in) low
-      where
-        low : Low (length xs) (sets blank 0 xs)
-        low k l = rw (in-front xs blank fits k l) (ordered-low log sound k l)
+        (cycle-written xs blank fits log seconds lowest same along ∙ sym (ap (λ (a : LineOrCycle (List ℕ)). answer-records log (gives a)) is))

@@ -1,10 +1,9 @@
 -- `verdict::ordered` meets its contract: the tables of the three reasons, joined, are the log's edges, so the sort gives the log's line or
 -- cycle; what is then written are its records.
 use borrow.Author.Needs.{needs}
-use native.Mathlib.Omega.{arith}
 use mathlib.Core.Path.{_≡_, sym, _∙_, ap}
-use mathlib.Core.List.{List, []}
-use Prim.Native.Nat.{ℕ, _≤_}
+use mathlib.Core.List.{List}
+use Prim.Native.Nat.{ℕ}
 use lib.ListN.{length, replicate, length-replicate}
 use lib.Seq.{sets}
 use denote.Ref.{now}
@@ -19,10 +18,9 @@ use Rattle.edges.specs.Table.{lowest-in}
 use Rattle.edges.proofs.EdgeTables.{joined-whole, lowest-whole}
 use Rattle.lines.specs.Rule.{LineOrCycle, line, cycle, members-of, length-of, sorted}
 use Rattle.sort.specs.Numbers.{sorted-says}
-use Rattle.lines.proofs.Outcomes.{line-of, cycle-of}
+use Rattle.lines.proofs.Outcomes.{IsLine, IsCycle, line-of, cycle-of}
 use Rattle.answers.specs.Verdict.{line-or-cycle}
-use Rattle.verdict.proofs.Written.{sorted-is, line-answer, cycle-answer, first-low}
-use Rattle.answers.proofs.AnswerRecords.{ordered-fits}
+use Rattle.verdict.proofs.Written.{sorted-is, InBuffer, counted-low, first-low, line-answer, cycle-answer}
 use Rattle.verdict.proofs.ordered.Statement.{statement}
 use Rattle.verdict.proofs.ordered.Tie as tie
 
@@ -98,66 +96,80 @@ module _ (c : tie.After-sort) where
   in-buffer : buffer ≡ sets blank 0 (members-of (line-or-cycle log-of))
   in-buffer = c .sort .ensures .leaves ∙ ap (λ (o : LineOrCycle (List ℕ)). sets blank 0 (members-of o)) is-sorted
 
-  -- n of them, which there is room for
-  fits : (n : ℕ) → n ≡ length (members-of (line-or-cycle log-of)) → n ≤ transactions
-  fits n e = rw e (ordered-fits log-of sound)
+  -- n of them
+  sorted-into : (n : ℕ) → n ≡ length (members-of (line-or-cycle log-of)) → InBuffer log-of blank buffer n
+  sorted-into n e = record { sound = sound; whole = length-replicate {A = ℕ} 64 0; holds = in-buffer; counted = e }
 
--- a line
+-- a line, of n members
 module _ (c : tie.After-n) where
-  abbrev line-sorted : tie.After-sort
-  line-sorted = c .before .before
+  abbrev line-at : tie.After-sort
+  line-at = c .before .before
 
-  is-line : line (c .n .given .0 .0) ≡ length-of (line-or-cycle (log-of line-sorted))
-  is-line = sym (ap sorted-says (c .n .given .1)) ∙ says line-sorted
+  abbrev line-size : ℕ
+  line-size = c .n .given .0 .0
 
+  line-is : line line-size ≡ length-of (line-or-cycle (log-of line-at))
+  line-is = sym (ap sorted-says (c .n .given .1)) ∙ says line-at
+
+  abbrev the-line : IsLine line-size (line-or-cycle (log-of line-at))
+  the-line = line-of line-size (line-or-cycle (log-of line-at)) line-is
+
+  line-in-buffer : InBuffer (log-of line-at) (blank line-at) (buffer line-at) line-size
+  line-in-buffer = sorted-into line-at line-size (the-line .counted)
+
+-- the members are written with zeros
 write-records-requires : tie.Need-write-records-requires
 write-records-requires c κs =
-    let at-n = c .before .before .before .before in
-    let s = line-sorted at-n in
-    let counted = line-of (at-n .n .given .0 .0) (line-or-cycle (log-of s)) (is-line at-n) .counted in
-    (omega (arith, fits s (at-n .n .given .0 .0) counted), start s .pre .1)
+    let found = c .before .before .before .before in
+    (counted-low (line-in-buffer found), start (line-at found) .pre .1)
 
 enum-known-n-2 : tie.Need-enum-known-n-2
 enum-known-n-2 c = search needs
 
--- a cycle
+-- a cycle, of n members
 module _ (c : tie.After-n2) where
-  abbrev cycle-sorted : tie.After-sort
-  cycle-sorted = c .before .before
+  abbrev cycle-at : tie.After-sort
+  cycle-at = c .before .before
 
-  is-cycle : cycle (c .n2 .given .0 .0) ≡ length-of (line-or-cycle (log-of cycle-sorted))
-  is-cycle = sym (ap sorted-says (c .n2 .given .1)) ∙ says cycle-sorted
+  abbrev cycle-size : ℕ
+  cycle-size = c .n2 .given .0 .0
 
-  counted : c .n2 .given .0 .0 ≡ length (members-of (line-or-cycle (log-of cycle-sorted)))
-  counted = cycle-of (c .n2 .given .0 .0) (line-or-cycle (log-of cycle-sorted)) is-cycle .counted
+  cycle-is : cycle cycle-size ≡ length-of (line-or-cycle (log-of cycle-at))
+  cycle-is = sym (ap sorted-says (c .n2 .given .1)) ∙ says cycle-at
 
+  abbrev the-cycle : IsCycle cycle-size (line-or-cycle (log-of cycle-at))
+  the-cycle = cycle-of cycle-size (line-or-cycle (log-of cycle-at)) cycle-is
+
+  cycle-in-buffer : InBuffer (log-of cycle-at) (blank cycle-at) (buffer cycle-at) cycle-size
+  cycle-in-buffer = sorted-into cycle-at cycle-size (the-cycle .counted)
+
+-- the reasons are found along its members
 reasons-along-requires : tie.Need-reasons-along-requires
 reasons-along-requires c κs =
-    let at-n = c .before .before .before .before .before in
-    let s = cycle-sorted at-n in
-    let n = at-n .n2 .given .0 .0 in (
-      fits s n (counted at-n),
-      first-low (log-of s) (sound s) n [] (blank s) (buffer s) [] (length-replicate {A = ℕ} 64 0) (in-buffer s) (counted at-n),
-    )
+    let found = c .before .before .before .before .before in
+    (counted-low (cycle-in-buffer found), first-low (cycle-in-buffer found))
 
+-- where they have been found
+module _ (c : tie.After-reasons-along) where
+  abbrev cycle-found : tie.After-n2
+  cycle-found = c .before .before .before .before .before .before
+
+-- and written with the members
 write-records-requires-2 : tie.Need-write-records-requires-2
 write-records-requires-2 c κs =
-    let at-n = c .before .before .before .before .before .before .before .before .before in
-    let s = cycle-sorted at-n in
-    (omega (arith, fits s (at-n .n2 .given .0 .0) (counted at-n)), start s .pre .1)
+    let found = cycle-found (c .before .before .before) in
+    (counted-low (cycle-in-buffer found), start (cycle-at found) .pre .1)
 
 same-length : tie.Need-same-length
 same-length c = search needs
 
 returns : tie.Need-returns
 returns c =
-    let at-n = c .before .before .before .before .before .before .before in
-    let s = line-sorted at-n in
-    let n = at-n .n .given .0 .0 in (
-      ap gives (is-line at-n),
-      c .before .before .write-records .ensures
-          ∙ line-answer (log-of s) (sound s) n (now (start s .args .answer)) (blank s) (buffer s) (blank s) (length-replicate {A = ℕ} 64 0) (in-buffer s)
-          (is-line at-n) (empty-entry 64),
+    let at-write = c .before .before in
+    let found = at-write .before .before .before .before .before in
+    let s = line-at found in (
+      ap gives (line-is found),
+      at-write .write-records .ensures ∙ line-answer (line-in-buffer found) (now (start s .args .answer)) (blank s) (the-line found .is-one) (empty-entry 64),
     )
 
 same-length-2 : tie.Need-same-length-2
@@ -165,16 +177,14 @@ same-length-2 c = search needs
 
 returns-2 : tie.Need-returns-2
 returns-2 c =
-    let at-n = c .before .before .before .before .before .before .before .before .before .before .before .before in
-    let at-reasons = c .before .before .before .before .before .before in
-    let s = cycle-sorted at-n in
-    let n = at-n .n2 .given .0 .0 in
-    let old = now (start s .args .answer) in
-    let reasons = at-reasons .reasons-along .result in (
-      ap gives (is-cycle at-n),
-      c .before .before .write-records2 .ensures
-          ∙ cycle-answer (log-of s) (sound s) n old (blank s) (buffer s) reasons (length-replicate {A = ℕ} 64 0) (in-buffer s)
-          (is-cycle at-n) (lowest s) (lowest-is s) (at-reasons .reasons-along .ensures),
+    let at-write = c .before .before in
+    let at-reasons = at-write .before .before .before .before in
+    let found = cycle-found at-reasons in
+    let s = cycle-at found in (
+      ap gives (cycle-is found),
+      at-write .write-records2 .ensures
+          ∙ cycle-answer (cycle-in-buffer found) (now (start s .args .answer)) (at-reasons .reasons-along .result) (the-cycle found .is-one)
+          (lowest s) (lowest-is s) (at-reasons .reasons-along .ensures),
     )
 
 pub ordered-spec : {M : Type 1} → statement M
