@@ -69,8 +69,8 @@ module _ (h : History) where
       → serialization-edge h (h .transaction e) (h .transaction f) ≡ true
   unfolding serialization-edge
   conflict-in-SG e f l v w d b =
-      rw (two-hit h (h .transaction e) (h .transaction f) (record { from-part = v .part; to-part = w .part; other = d }))
-      (conflict-hit h e f l (w .there) b)
+      rw (two-hit h (h .transaction e) (h .transaction f) (record { from-part = v .part; to-part = w .part; other = d }), conflict-hit h e f l (w .there) b)
+      refl
 
   pub extends-SG : (i j : ℕ) → serialization-edge h i j ≡ true → edge h i j ≡ true
   extends-SG i j b = conflict-edge h i j (SG-two i j b) (SG-conflict i j b)

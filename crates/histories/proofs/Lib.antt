@@ -1,3 +1,4 @@
+pub mod ByExample
 pub mod OfTransactions
 pub mod Sources
 pub mod Orders
