@@ -1,3 +1,4 @@
+pub mod ByExample
 pub mod Answers
 pub mod Rows
 pub mod KindBytes
