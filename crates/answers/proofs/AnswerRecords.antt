@@ -27,7 +27,7 @@ use Rattle.answers.proofs.VerdictRows.{check-passes, enough-room, answe
 pub length-pairs : (n : ℕ) (f g : ℕ → ℕ) → length (pairs n f g) ≡ n * record-size
 unfolding pairs
 length-pairs zero f g = refl
-length-pairs (suc n) f g = length-append (pairs n f g) (f n ∷ g n ∷ []) ∙ omega (arith, length-pairs n f g)
+length-pairs (suc n) f g = length-append (pairs n f g) _ ∙ omega (arith, length-pairs n f g)
 
 -- the two bytes of record k
 pub pairs-bytes : (n : ℕ) (f g : ℕ → ℕ) (k : ℕ) → k < n

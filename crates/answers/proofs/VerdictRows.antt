@@ -9,7 +9,6 @@ use Rattle.rules.specs.Answer.{Answer, gives, refused, passed, _then_}
 use Rattle.rules.specs.Rows.{row, answer-of, NoneOf}
 use Rattle.rules.specs.Refusals.{length-rows, content-rows, log-rows, length-answer, content-answer}
 use Rattle.rules.specs.Passes.{Passes}
-use Rattle.rules.proofs.Answers.{passed-then}
 use Rattle.rules.proofs.Rows.{passes-exactly, append-passed, append-refused, row-applies, row-skipped, none-here, none-later, none-with, none-left, none-right, none-both}
 use Rattle.rules.proofs.PassedLogs.{none-passes}
 use Rattle.lines.specs.Rule.{LineOrCycle, length-of}
@@ -32,7 +31,7 @@ module _ (log : List ℕ) (room : ℕ) where
   -- which check speaks
   pub by-length : (n p : ℕ) → length-answer log ≡ refused n p → verdict-check log room ≡ refused n p
   unfolding verdict-check length-answer
-  by-length n p h = append-refused (length-rows log) (row 3 (short-buffer room) 0 ∷ content-rows log) n p h
+  by-length n p h = append-refused (length-rows log) _ n p h
 
   pub by-room : length-answer log ≡ passed → short-buffer room ≡ true → verdict-check log room ≡ refused 3 0
   unfolding verdict-check length-answer
@@ -79,7 +78,7 @@ module _ (log : List ℕ) (room : ℕ) where
 
   pub answer-given : verdict-check log room ≡ passed → verdict-answer log room ≡ gives (line-or-cycle log)
   unfolding verdict-answer
-  answer-given h = passed-then (verdict-check log room) (gives (line-or-cycle log)) h
+  answer-given h = rw h refl
 
   -- what is said: the table's refusal, and then how many members
   pub how-many-said : how-many (verdict-answer log room) ≡ (answer-of (verdict-rows log room) then gives (length-of (line-or-cycle log)))
