@@ -39,7 +39,7 @@ transaction-at-requires c κs =
     let s = c .before .before .before .before .before in
     let log = now (s .args .log) in
     let f = sourced (history-of log) (s .args .k) (place (c .before)) (found (c .before)) in
-    s .pre .0 (place (c .before)) (omega (arith, f .earlier, s .pre .1 .0 .there))
+    s .pre .0 _ (omega (arith, f .earlier, s .pre .1 .0 .there))
 
 writers-after-requires : tie.Need-writers-after-requires
 writers-after-requires c κs = search needs
