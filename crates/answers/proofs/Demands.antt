@@ -284,7 +284,7 @@ demand-2-determines log old a b left right ok room d e =
 
 -- the graph's answer and the check's, by the table's rows
 graph-said : (log : List ℕ) → graph-answer log ≡ (answer-of (log-rows log) then gives (members log))
-unfolding graph-answer
+unfolding graph-answer check-answer
 graph-said log = refl
 
 check-passed : (log : List ℕ) → NoneOf (log-rows log) → check-answer log ≡ passed

@@ -2,11 +2,11 @@
 use mathlib.Core.Path.{_≡_, refl}
 use mathlib.Core.Option.{Option·elim}
 use Rattle.sets.specs.Search.{some-below, some-from, last-below, first-below, without}
-use Rattle.histories.specs.History.{is-by, uses, uses-copy, writes-copy, writes-item}
+use Rattle.histories.specs.History.{is-by, uses, uses-copy, writes-copy, writes-item, on-same-copy, conflicting}
 use Rattle.histories.specs.Earlier.{some-before, some-of, some-after, first-of, committed, wrote-copy, wrote-item, writes}
 use Rattle.histories.specs.Source.{shows, is-written, source-record, source}
 use Rattle.histories.specs.Order.{comes-before, writer-after}
-use Rattle.histories.specs.Reasons.{on-same-copy, conflicting, gives-conflict, gives-write-order, gives-read-before}
+use Rattle.histories.specs.Reasons.{gives-conflict, gives-write-order, gives-read-before}
 use Rattle.histories.specs.Reasons.{conflict, write-order, read-before, two-of-them, edge, reason}
 use Rattle.histories.specs.Faults.{after-commit, reads-unwritten, reads-past-own}
 use Rattle.rules.specs.Rows.{answer-of, over}

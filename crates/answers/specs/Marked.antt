@@ -38,36 +38,36 @@ abbrev c : ℕ → List ℕ → List ℕ
 c t log = 3 ∷ t ∷ 0 ∷ 0 ∷ log
 
 -- a row of the table: what the verdict says of a log, and the answer's bytes
-pub record Row : Type 0 where
+pub record MarkedLog : Type 0 where
   pub log : List ℕ
   pub says : Answer (LineOrCycle ℕ)
   pub bytes : List ℕ
 
-abbrev serial : List ℕ → (n : ℕ) → List ℕ → Row
+abbrev serial : List ℕ → (n : ℕ) → List ℕ → MarkedLog
 serial log n bytes = record { log = log; says = gives (line n); bytes = bytes }
 
-abbrev cyclic : List ℕ → (n : ℕ) → List ℕ → Row
+abbrev cyclic : List ℕ → (n : ℕ) → List ℕ → MarkedLog
 cyclic log n bytes = record { log = log; says = gives (cycle n); bytes = bytes }
 
-abbrev refusal : List ℕ → (number place : ℕ) → Row
+abbrev refusal : List ℕ → (number place : ℕ) → MarkedLog
 refusal log number place = record { log = log; says = refused number place; bytes = [] }
 
 -- the row that the definitions give for a log, with a buffer of 128 bytes
-abbrev pub row-given : Row → Row
-row-given p =
+abbrev pub marked-given : MarkedLog → MarkedLog
+marked-given p =
     let answer = verdict-answer (p .log) most-answer in
     record { log = p .log; says = how-many answer; bytes = answer-records (p .log) answer }
 
-abbrev pub all-given : List Row → List Row
+abbrev pub all-given : List MarkedLog → List MarkedLog
 all-given [] = []
-all-given (p ∷ ps) = row-given p ∷ all-given ps
+all-given (p ∷ ps) = marked-given p ∷ all-given ps
 
 -- P2 (history H1 of source document 000) w0[xA] w0[xB] w0[yC] c0 r1[yC] w1[xA] c1 r2[xB] w2[yC] c2: cycle 1, 2 with reasons 1, 3.
-abbrev pub P2 : Row
+abbrev pub P2 : MarkedLog
 P2 = cyclic (w 0 x A (w 0 x B (w 0 y C (c 0 (r 1 y C (w 1 x A (c 1 (r 2 x B (w 2 y C (c 2 [])))))))))) 2 (1 ∷ 1 ∷ 2 ∷ 3 ∷ [])
 
 -- the logs that document 01 marks P
-abbrev pub marked : List Row
+abbrev pub marked : List MarkedLog
 marked =
     -- P1 empty: serial, 0.
     serial [] 0 []

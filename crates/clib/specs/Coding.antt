@@ -21,7 +21,7 @@ coded value (refused n p) = coded-refusal n p
 abbrev pub passed-value : Unit {0} → ℕ
 passed-value u = 0
 
--- a source has its transaction for a value, which is below 64 (`passed-source-low`), and "none" has 64
+-- a source has its transaction for a value, which is below 64 (theorem `source-low`), and "none" has 64
 abbrev pub source-value : Option ℕ → ℕ
 source-value (some t) = t
 source-value none = transactions

@@ -8,13 +8,13 @@ use mathlib.Core.Option.{Option, none, some}
 use lib.ListN.{length, getD}
 use lib.Dec.{eqb}
 use Rattle.sets.specs.Search.{some-below, some-from, first-below, last-below}
-use Rattle.histories.specs.History.{History, is-by, uses, uses-copy, writes-copy, writes-item}
+use Rattle.histories.specs.History.{History, is-by, uses, uses-copy, writes-copy, writes-item, on-same-copy, conflicting}
 use Rattle.histories.specs.Earlier.{some-before, some-of, some-after, first-of, committed, wrote-copy, wrote-item, writes}
 use Rattle.histories.specs.Source.{shows, is-written, source-record, source}
 use Rattle.histories.specs.Order.{comes-before, writer-after}
-use Rattle.histories.specs.Reasons.{on-same-copy, conflicting, gives-conflict, gives-write-order, gives-read-before}
+use Rattle.histories.specs.Reasons.{gives-conflict, gives-write-order, gives-read-before}
 use Rattle.histories.specs.Reasons.{conflict, write-order, read-before, two-of-them, edge, reason}
-use Rattle.histories.specs.Checked.{after-commit, reads-unwritten, reads-past-own}
+use Rattle.histories.specs.Faults.{after-commit, reads-unwritten, reads-past-own}
 
 -- a record of an example: a read or a write by t of item x at site s, or a commit of t
 pub data Step : Type 0 where

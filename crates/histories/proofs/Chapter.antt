@@ -9,12 +9,12 @@ use mathlib.Core.Option.{some}
 use mathlib.Core.Logic.{inl, inr, ⊎-elim}
 use Rattle.sets.specs.Paths.{by-edge, edge-then, Acyclic}
 use Rattle.sets.proofs.Truth.{clash, and-left, and-right}
-use Rattle.histories.specs.History.{History, Counts, uses}
-use Rattle.histories.specs.Earlier.{writes, wrote-item}
+use Rattle.histories.specs.History.{History, Counts, uses, conflicting}
+use Rattle.histories.specs.Earlier.{writes, wrote-item, Writer}
 use Rattle.histories.specs.Source.{shows, source-record, source}
 use Rattle.histories.specs.Order.{comes-before, writer-after}
-use Rattle.histories.specs.Reasons.{conflicting, gives-write-order, gives-read-before, conflict, write-order, read-before, two-of-them, edge}
-use Rattle.histories.specs.Chapter.{serialization-edge, ReadsFrom, Writer, InducesWriteOrder, InducesReadOrder, RDSG}
+use Rattle.histories.specs.Reasons.{gives-write-order, gives-read-before, conflict, write-order, read-before, two-of-them, edge}
+use Rattle.histories.specs.Chapter.{serialization-edge, ReadsFrom, InducesWriteOrder, InducesReadOrder, RDSG}
 use Rattle.histories.specs.Sound.{Sound}
 use Rattle.histories.proofs.OfTransactions.{of-hit, WritesCopy, writes-copy-hit, wrote-copy-found, writes-found, writes-hit}
 use Rattle.histories.proofs.Sources.{shows-found, shows-hit, Sourced, sourced, source-of, source-record-of}
@@ -96,7 +96,7 @@ module _ (h : History) (sound : Sound h) where
       let s = sourced h e f (found .found) in
       let there : f < h .size = omega (arith, s .earlier, r .counts .there) in
       let w = shows-found h e f (s .shown) in
-      let one-item = sound .one-item f e there (r .counts .there) (write-uses h f (w .is-one)) (read-uses h e (s .reads)) (w .of-copy) in
+      let one-item = sound .of-copies .one-item f e there (r .counts .there) (write-uses h f (w .is-one)) (read-uses h e (s .reads)) (w .of-copy) in
       record {
         part = source-part (sound .has-source e (r .counts) (s .reads) .origin) (sound .has-source e (r .counts) (s .reads) .from) (sound .has-source e (r .counts) (s .reads) .part);
         wrote = writes-hit h i x f there (found .own) (w .is-one) (one-item ∙ r .of-item);
@@ -151,7 +151,7 @@ module _ (h : History) (sound : Sound h) where
           shown : shows h k e ≡ true
           shown =
               let writes = writes-copy-hit h e (h .copy k) (v .is-one) (v .of-copy) in
-              shows-hit h k e (sound .none-passed e k a c r (subst (λ (t : ℕ). h .takes-part t ≡ true) (sym b) (c .part)) writes) writes
+              shows-hit h k e (sound .of-copies .none-passed e k a c r (subst (λ (t : ℕ). h .takes-part t ≡ true) (sym b) (c .part)) writes) writes
 
           later : Dec (e ≡ f) → f < e
           later (yes x) = absurd (d (ap (h .transaction) (sym x) ∙ b))

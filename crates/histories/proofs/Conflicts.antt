@@ -9,9 +9,9 @@ use lib.Dec.{eqb}
 use borrow.Author.Tests.{eq-eqb}
 use Rattle.sets.specs.Search.{some-from}
 use Rattle.sets.proofs.Truth.{either, clash, and-always, and-nothing, or-nothing, or-hit-left, or-hit-right}
-use Rattle.histories.specs.History.{History, is-by, uses, uses-copy, writes-copy}
+use Rattle.histories.specs.History.{History, is-by, uses, uses-copy, writes-copy, on-same-copy, conflicting}
 use Rattle.histories.specs.Earlier.{some-after}
-use Rattle.histories.specs.Reasons.{on-same-copy, conflicting, gives-conflict, conflict}
+use Rattle.histories.specs.Reasons.{gives-conflict, conflict}
 use Rattle.histories.proofs.OfTransactions.{of-hit, after-hit, after-found}
 
 -- of the users of a copy those that write it

@@ -64,7 +64,6 @@ module _ (h : History) where
         record {
           commits = its-commit;
           has-source = its-source;
-          none-passed = w .none-passed;
-          one-item = w .one-item;
+          of-copies = w .of-copies;
           own-copies = λ k c r o. read-own k (w .no-8 k (c .there)) r o;
         }

@@ -100,13 +100,13 @@ module _ (h : History) where
     after-hit e f l m o b = from-hit passes-own (e + 1) (h .size) f (omega (arith, l)) m (own-passes f o b)
 
     -- the first record of t that passes: it is one, and whoever else passes does not stand before it
-    pub record FirstOf (c : ℕ) : Type 0 where
+    pub record IsFirst (c : ℕ) : Type 0 where
       pub there : c < h .size
       pub own : h .transaction c ≡ t
       pub passes : p c ≡ true
       pub none-before : (e : ℕ) → e < c → h .transaction e ≡ t → p e ≡ true → ⊥
 
-    first-seen : (c : ℕ) → First passes-own (h .size) (some c) → FirstOf c
+    first-seen : (c : ℕ) → First passes-own (h .size) (some c) → IsFirst c
     first-seen c (first-some l b f) =
         record {
           there = l;
@@ -115,7 +115,7 @@ module _ (h : History) where
           none-before = λ e m o q. clash (passes-own e) (own-passes e o q) (f e m);
         }
 
-    pub first-of-found : (c : ℕ) → first-of h t p ≡ some c → FirstOf c
+    pub first-of-found : (c : ℕ) → first-of h t p ≡ some c → IsFirst c
     unfolding first-of passes-own
     first-of-found c q = first-seen c (first-found passes-own (h .size) q)
 

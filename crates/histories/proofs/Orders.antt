@@ -11,9 +11,8 @@ use lib.Dec.{eqb, ltb}
 use borrow.Author.Tests.{ne-eqb, eqb-false, not-true, lt-ltb, ltb-true}
 use Rattle.sets.proofs.Truth.{same-truth, and-true, and-left, and-right}
 use Rattle.histories.specs.History.{History}
-use Rattle.histories.specs.Earlier.{some-of, some-after, first-of, writes}
+use Rattle.histories.specs.Earlier.{some-of, some-after, first-of, writes, Writer}
 use Rattle.histories.specs.Order.{earlier, comes-before, writer-after}
-use Rattle.histories.specs.Chapter.{Writer}
 use Rattle.histories.specs.Faults.{CommitsOnce}
 use Rattle.histories.specs.Sound.{Sound}
 use Rattle.histories.proofs.OfTransactions.{of-found, of-hit, after-found, after-hit, first-of-found, first-of-some}

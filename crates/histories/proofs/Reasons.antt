@@ -5,11 +5,11 @@ use mathlib.Core.Bool.{Bool, true, false, _&&_}
 use mathlib.Core.Option.{Option, none, some}
 use mathlib.Core.Logic.{⊎-elim}
 use Rattle.sets.proofs.Truth.{either, clash, and-left, and-right, and-nothing}
-use Rattle.histories.specs.History.{History}
+use Rattle.histories.specs.History.{History, conflicting}
 use Rattle.histories.specs.Earlier.{writes}
 use Rattle.histories.specs.Source.{source-record, source}
 use Rattle.histories.specs.Order.{writer-after}
-use Rattle.histories.specs.Reasons.{of-source, conflicting, gives-conflict, gives-write-order, gives-read-before, conflict, write-order, read-before}
+use Rattle.histories.specs.Reasons.{of-source, gives-conflict, gives-write-order, gives-read-before, conflict, write-order, read-before}
 use Rattle.histories.proofs.OfTransactions.{of-found, of-hit, after-found, writes-hit}
 use Rattle.histories.proofs.Sources.{source-of, source-none}
 use Rattle.histories.proofs.Orders.{WriterAfter, writer-after-found, writer-after-hit}

@@ -1,7 +1,8 @@
 -- Records of a transaction: before a record, in the whole history, after a record, and the first of them; so what a transaction has done
 -- before a record.
 use Prim.Native.Nat.{ℕ, _+_}
-use mathlib.Core.Bool.{Bool, _&&_}
+use mathlib.Core.Path.{_≡_}
+use mathlib.Core.Bool.{Bool, true, _&&_}
 use mathlib.Core.Option.{Option}
 use Rattle.sets.specs.Search.{some-below, some-from, first-below}
 use Rattle.histories.specs.History.{History, is-by, writes-copy, writes-item}
@@ -38,3 +39,8 @@ module _ (h : History) where
   -- "All writes of one item by one transaction are one Write of that item": t writes the item x
   unfoldable pub writes : ℕ → ℕ → Bool
   writes t x = wrote-item t x (h .size)
+
+  -- t takes part, and writes x
+  pub record Writer (x t : ℕ) : Type 0 where
+    pub part : h .takes-part t ≡ true
+    pub wrote : writes t x ≡ true

@@ -27,6 +27,14 @@ module _ (h : History) where
   CommitsOnce =
       (c d : ℕ) → c < h .size → d < h .size → h .is-commit c ≡ true → h .is-commit d ≡ true → h .transaction c ≡ h .transaction d → c ≡ d
 
+  -- what is so of copies
+  pub record PlainCopies : Type 0 where
+    -- no write of one that takes part is passed over
+    pub none-passed : (e k : ℕ) → e < k → Counts h k → h .is-read k ≡ true → h .takes-part (h .transaction e) ≡ true
+        → writes-copy h e (h .copy k) ≡ true → h .seen e k ≡ true
+    -- a copy is of one item
+    pub one-item : (e k : ℕ) → e < h .size → k < h .size → uses h e ≡ true → uses h k ≡ true → h .copy e ≡ h .copy k → h .item e ≡ h .item k
+
   pub record Faultless : Type 0 where
     pub no-6 : (k : ℕ) → k < h .size → after-commit k ≡ false
     pub no-7 : (k : ℕ) → k < h .size → reads-unwritten k ≡ false
@@ -35,8 +43,4 @@ module _ (h : History) where
     pub has-committed : (t : ℕ) → h .takes-part t ≡ true → committed h t (h .size) ≡ true
     -- the source of a read that counts takes part
     pub source-part : (k e : ℕ) → Counts h k → source-record h k ≡ some e → h .takes-part (h .transaction e) ≡ true
-    -- no write of one that takes part is passed over
-    pub none-passed : (e k : ℕ) → e < k → Counts h k → h .is-read k ≡ true → h .takes-part (h .transaction e) ≡ true
-        → writes-copy h e (h .copy k) ≡ true → h .seen e k ≡ true
-    -- a copy is of one item
-    pub one-item : (e k : ℕ) → e < h .size → k < h .size → uses h e ≡ true → uses h k ≡ true → h .copy e ≡ h .copy k → h .item e ≡ h .item k
+    pub of-copies : PlainCopies

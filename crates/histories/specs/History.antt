@@ -16,6 +16,8 @@ pub record History : Type 0 where
   pub is-read : ℕ → Bool
   pub is-write : ℕ → Bool
   pub is-commit : ℕ → Bool
+  -- Three things that document 01 leaves no choice in: all transactions in the log take part, a read passes over no write, and every read is
+  -- real. Histories with cancelled transactions, or with reads that only gather versions, differ in these alone.
   -- transaction t stands in the graph, in lines and in cycles
   pub takes-part : ℕ → Bool
   -- `seen e k`: the read k does not pass over the write e
@@ -41,6 +43,14 @@ module _ (h : History) where
 
   unfoldable pub writes-item : ℕ → ℕ → Bool
   writes-item k x = h .is-write k && eqb (h .item k) x
+
+  -- "both on the same copy"
+  unfoldable pub on-same-copy : ℕ → ℕ → Bool
+  on-same-copy e f = uses-copy e (h .copy e) && uses-copy f (h .copy e)
+
+  -- "both on the same copy, at least one a write"
+  unfoldable pub conflicting : ℕ → ℕ → Bool
+  conflicting e f = on-same-copy e f && (h .is-write e || h .is-write f)
 
   -- record k is there, and its transaction takes part
   pub record Counts (k : ℕ) : Type 0 where

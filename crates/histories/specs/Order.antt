@@ -15,7 +15,7 @@ earlier none o = false
 
 module _ (h : History) where
   -- "Write order of an item: of two transactions that write the item, the one whose commit stands earlier comes first": of the two
-  -- writers i and j of the item x, i comes first
+  -- writers i and j of the item x, i comes first. In a log that passes, the first commit of a transaction is its only one.
   unfoldable pub comes-before : (x i j : ℕ) → Bool
   comes-before x i j = earlier (first-of h i (h .is-commit)) (first-of h j (h .is-commit))
 

@@ -4,7 +4,7 @@ use mathlib.Core.Path.{_≡_}
 use mathlib.Core.Bool.{Bool, true, false, not, _&&_, _||_, cond}
 use mathlib.Core.Option.{Option, none, some}
 use lib.Dec.{eqb}
-use Rattle.histories.specs.History.{History, uses-copy}
+use Rattle.histories.specs.History.{History, conflicting}
 use Rattle.histories.specs.Earlier.{some-of, some-after}
 use Rattle.histories.specs.Source.{source}
 use Rattle.histories.specs.Order.{writer-after}
@@ -19,18 +19,10 @@ abbrev pub lowest-reason : Bool → Bool → Bool → ℕ
 lowest-reason first second third = cond first 1 (cond second 2 (cond third 3 0))
 
 module _ (h : History) where
-  -- "both on the same copy"
-  unfoldable pub on-same-copy : ℕ → ℕ → Bool
-  on-same-copy e f = uses-copy h e (h .copy e) && uses-copy h f (h .copy e)
-
-  -- "both on the same copy, at least one a write"
-  unfoldable pub conflicting : ℕ → ℕ → Bool
-  conflicting e f = on-same-copy e f && (h .is-write e || h .is-write f)
-
   -- What a record e of transaction i says of an edge from i to j, for each reason.
   -- 1. "a record of i stands before a record of j, both on the same copy, at least one a write"
   unfoldable pub gives-conflict : ℕ → ℕ → Bool
-  gives-conflict e j = some-after h e j (conflicting e)
+  gives-conflict e j = some-after h e j (conflicting h e)
 
   -- 2. "both write one item, and i comes before j in its write order"
   unfoldable pub gives-write-order : ℕ → ℕ → Bool

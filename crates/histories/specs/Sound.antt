@@ -6,6 +6,7 @@ use mathlib.Core.Option.{some}
 use Rattle.histories.specs.History.{History, Counts, uses, writes-copy}
 use Rattle.histories.specs.Earlier.{first-of, wrote-copy, wrote-item}
 use Rattle.histories.specs.Source.{source}
+use Rattle.histories.specs.Faults.{PlainCopies}
 
 module _ (h : History) where
   -- the first commit of t
@@ -24,11 +25,7 @@ module _ (h : History) where
     pub commits : (t : ℕ) → h .takes-part t ≡ true → Commits t
     -- each read that counts has a source, which takes part
     pub has-source : (k : ℕ) → Counts h k → h .is-read k ≡ true → HasSource k
-    -- no write of one that takes part is passed over
-    pub none-passed : (e k : ℕ) → e < k → Counts h k → h .is-read k ≡ true → h .takes-part (h .transaction e) ≡ true
-        → writes-copy h e (h .copy k) ≡ true → h .seen e k ≡ true
-    -- a copy is of one item
-    pub one-item : (e k : ℕ) → e < h .size → k < h .size → uses h e ≡ true → uses h k ≡ true → h .copy e ≡ h .copy k → h .item e ≡ h .item k
+    pub of-copies : PlainCopies h
     -- who has written an item reads only copies that it wrote
     pub own-copies : (k : ℕ) → Counts h k → h .is-read k ≡ true → wrote-item h (h .transaction k) (h .item k) k ≡ true
         → wrote-copy h (h .transaction k) (h .copy k) k ≡ true

@@ -10,7 +10,7 @@ module _ (h : History) where
   unfoldable pub shows : ℕ → ℕ → Bool
   shows k e = h .seen e k && writes-copy h e (h .copy k)
 
-  -- an earlier record writes the copy of the read k
+  -- an earlier record, which k does not pass over, writes the copy of the read k
   unfoldable pub is-written : ℕ → Bool
   is-written k = some-below k (shows k)
 

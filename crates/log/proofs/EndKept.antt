@@ -3,14 +3,14 @@ use Prim.Native.Nat.{ℕ, _<_}
 use mathlib.Core.Path.{_≡_, refl, sym, _∙_, ap, ap₂}
 use mathlib.Core.List.{List}
 use mathlib.Core.Bool.{Bool, true, false, not, _&&_}
-use mathlib.Core.Option.{Option}
+use mathlib.Core.Option.{Option, Option·getD}
 use lib.ListN.{getD}
 use Rattle.sets.specs.Bits.{has}
 use Rattle.histories.specs.Earlier.{some-before, committed}
 use Rattle.rules.specs.Answer.{refused, passed}
 use Rattle.rules.specs.LogHistory.{in-log}
 use Rattle.rules.specs.Record.{transactions, records}
-use Rattle.rules.specs.Refusals.{never-commits, place-or-zero, first-record, end-row, end-rows}
+use Rattle.rules.specs.Refusals.{never-commits, first-record, end-row, end-rows}
 use Rattle.rules.specs.Rows.{answer-of}
 use Rattle.rules.proofs.Rows.{each-passes, over-lowest}
 use Rattle.log.specs.Kept.{KeptCommits, KeptNames}
@@ -38,4 +38,4 @@ module _ (log : List ℕ) (names commits : ℕ) (firsts : List ℕ) (w : KeptNam
   unfolding first-record
   open-at t l h a b =
       over-lowest (end-row log) transactions t l h (sym (never-kept t) ∙ ap₂ (λ (x y : Bool). x && not y) a b)
-      ∙ ap (λ (o : Option ℕ). refused 9 (place-or-zero o)) (w .first t (sym (w .said t) ∙ a))
+      ∙ ap (λ (o : Option ℕ). refused 9 (Option·getD o 0)) (w .first t (sym (w .said t) ∙ a))

@@ -70,9 +70,9 @@ module _ (log : List ℕ) where
 
   -- the graph
   pub graph-refused : {n p : ℕ} → check-answer log ≡ refused n p → graph-answer log ≡ refused n p
-  unfolding graph-answer check-answer
+  unfolding graph-answer
   graph-refused h = rw h refl
 
   pub graph-given : check-answer log ≡ passed → graph-answer log ≡ gives (members log)
-  unfolding graph-answer check-answer
+  unfolding graph-answer
   graph-given h = rw h refl

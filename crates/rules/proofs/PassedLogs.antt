@@ -4,15 +4,16 @@ use native.Mathlib.Omega.{arith}
 use mathlib.Core.Path.{_≡_, refl, sym, subst}
 use mathlib.Core.List.{List}
 use mathlib.Core.Bool.{true, false, not}
+use mathlib.Core.Option.{some}
 use lib.ListN.{length}
 use lib.Dec.{eqb}
 use borrow.Author.Tests.{ltb-false, eqb-true, eq-eqb, not-false}
 use Rattle.sets.proofs.Searches.{some-found, some-hit}
 use Rattle.histories.specs.Earlier.{committed}
 use Rattle.histories.specs.Faults.{Faultless}
-use Rattle.histories.specs.Source.{shows}
+use Rattle.histories.specs.Source.{shows, source}
 use Rattle.histories.specs.History.{writes-copy}
-use Rattle.histories.proofs.Sources.{sourced}
+use Rattle.histories.proofs.Sources.{sourced, source-record-of}
 use Rattle.histories.proofs.Faults.{commits-once, faultless-sound}
 use Rattle.rules.specs.Answer.{passed}
 use Rattle.rules.specs.Rows.{NoneOf}
@@ -58,6 +59,14 @@ module _ (log : List ℕ) where
   pub in-log-low : InLimits log → (t : ℕ) → in-log log t ≡ true → t < transactions
   in-log-low limits t b = let w = in-log-found t b in let q = w .own in omega (arith, limits (w .at) (w .there) .transaction-within, q)
 
+  -- THEOREM: the source of a record is a transaction below 64
+  pub source-low : InLimits log → (k t : ℕ) → k < records log → source (history-of log) k ≡ some t → t < transactions
+  source-low limits k t l q =
+      let s = source-record-of (history-of log) k t q in
+      let e = sourced (history-of log) k (s .at) (s .found) in
+      let own = s .own in
+      omega (arith, limits (s .at) (omega (arith, e .earlier, l)) .transaction-within, own)
+
   module _ (none-of : NoneOf (log-rows log)) where
     limits : InLimits log
     limits k l = within-record log k l (no-5 log none-of k l)
@@ -75,8 +84,7 @@ module _ (log : List ℕ) where
           no-8 = no-8 log none-of;
           has-committed = has-committed;
           source-part = λ k e c q. all-part e (omega (arith, sourced (history-of log) k e q .earlier, c .there));
-          none-passed = λ e k l c r p w. refl;
-          one-item = λ e k l m u v q. same-copy e k (limits e l) (limits k m) q .0;
+          of-copies = record { none-passed = λ e k l c r p w. refl; one-item = λ e k l m u v q. same-copy e k (limits e l) (limits k m) q .0 };
         }
 
     whole-log : length log ≡ records log * record-bytes

@@ -1,8 +1,9 @@
 -- The parts of document 01's table, and what the absence of each number says of a log that passes.
 use Prim.Native.Nat.{ℕ, _<_}
-use mathlib.Core.Path.{_≡_, _∙_}
+use mathlib.Core.Path.{_≡_, _∙_, ap}
 use mathlib.Core.List.{List, [], _∷_, _++_}
 use mathlib.Core.Bool.{true, false, not}
+use mathlib.Core.Logic.{_↔_}
 use Rattle.histories.specs.Faults.{after-commit, reads-unwritten, reads-past-own}
 use Rattle.histories.specs.History.{History}
 use Rattle.histories.proofs.Faults.{not-unwritten, not-past-own}
@@ -13,7 +14,7 @@ use Rattle.rules.specs.Form.{known-kind, in-range, form-rows}
 use Rattle.rules.specs.LogHistory.{history-of}
 use Rattle.rules.specs.Refusals.{too-long, ragged, length-rows, read-rows, history-rows, record-rows, never-commits, end-row, end-rows, content-rows, log-rows}
 use Rattle.rules.specs.Refusals.{length-answer, content-answer, check-answer}
-use Rattle.rules.proofs.Rows.{no-rows, row-applies, row-skipped, passes-exactly, append-passed, append-refused, none-here, none-later, none-left, none-right, over-refused, over-passes, none-applies}
+use Rattle.rules.proofs.Rows.{no-rows, row-applies, row-skipped, passes-exactly, append-passed, append-refused, none-of-none, none-here, none-later, none-with, none-left, none-right, none-both, over-refused, over-none, over-passes, none-applies}
 use Rattle.rules.proofs.Ranges.{known-passes, range-passes, within-record}
 
 -- 6 to 8 at record k of any history, by which test is the first to hold
@@ -127,3 +128,46 @@ module _ (log : List ℕ) where
       no-8 =
           none-here (row 8 (reads-past-own (history-of log) k) k) []
           (none-later (row 7 (reads-unwritten (history-of log) k) k) (row 8 (reads-past-own (history-of log) k) k ∷ []) by-reads)
+
+  -- The same row by row, without the order of the rows: none of 1, 2 and 4 to 9 applies (3 and 10 are not about the log).
+  pub record NothingApplies : Type 0 where
+    pub not-1 : too-long log ≡ false
+    pub not-2 : ragged log ≡ false
+    pub not-4 : (k : ℕ) → k < records log → known-kind (kind log k) ≡ true
+    pub not-5 : (k : ℕ) → k < records log → in-range (kind log k) (transaction log k) (item log k) (site log k) ≡ true
+    pub not-6 : (k : ℕ) → k < records log → after-commit (history-of log) k ≡ false
+    pub not-7 : (k : ℕ) → k < records log → reads-unwritten (history-of log) k ≡ false
+    pub not-8 : (k : ℕ) → k < records log → reads-past-own (history-of log) k ≡ false
+    pub not-9 : (t : ℕ) → t < transactions → never-commits log t ≡ false
+
+  -- THEOREM: no row applies exactly where none of the numbers does
+  pub nothing-applies-exactly : NoneOf (log-rows log) ↔ NothingApplies
+  nothing-applies-exactly = (ahead, back)
+    where
+      ahead : NoneOf (log-rows log) → NothingApplies
+      ahead w =
+          record {
+            not-1 = no-1 w;
+            not-2 = no-2 w;
+            not-4 = no-4 w;
+            not-5 = no-5 w;
+            not-6 = no-6 w;
+            not-7 = no-7 w;
+            not-8 = no-8 w;
+            not-9 = no-9 w;
+          }
+
+      at-record-none : NothingApplies → (k : ℕ) → k < records log → NoneOf (record-rows log k)
+      at-record-none w k l =
+          none-with (row 4 (not (known-kind (kind log k))) k) _ (ap not (w .not-4 k l))
+          (none-with (row 5 (not (in-range (kind log k) (transaction log k) (item log k) (site log k))) k) _ (ap not (w .not-5 k l))
+          (none-with (row 6 (after-commit (history-of log) k) k) _ (w .not-6 k l)
+          (none-with (row 7 (reads-unwritten (history-of log) k) k) _ (w .not-7 k l)
+          (none-with (row 8 (reads-past-own (history-of log) k) k) [] (w .not-8 k l) none-of-none))))
+
+      back : NothingApplies → NoneOf (log-rows log)
+      back w =
+          none-both (length-rows log) (content-rows log)
+          (none-with (row 1 (too-long log) 0) _ (w .not-1) (none-with (row 2 (ragged log) 0) [] (w .not-2) none-of-none))
+          (none-both (over (record-rows log) (records log)) (end-rows log) (over-none (record-rows log) (records log) (at-record-none w))
+          (over-none (λ t. end-row log t ∷ []) transactions (λ t l. none-with (end-row log t) [] (w .not-9 t l) none-of-none)))

@@ -40,7 +40,7 @@ unfoldable pub edge-table : List ℕ → List ℕ
 edge-table log = table-of transactions (λ i. set-of transactions (edge (history-of log) i))
 
 unfoldable pub graph-answer : List ℕ → Answer ℕ
-graph-answer log = answer-of (log-rows log) then gives (members log)
+graph-answer log = check-answer log then gives (members log)
 
 -- what a lent table has afterwards: the new content, or after a refusal the old
 abbrev pub unless-refused : {A : Type 0} → Answer A → List ℕ → List ℕ → List ℕ

@@ -2,7 +2,7 @@
 use Prim.Native.Nat.{ℕ, _%_}
 use mathlib.Core.List.{List, [], _∷_, _++_}
 use mathlib.Core.Bool.{Bool, not, _&&_}
-use mathlib.Core.Option.{Option, none, some}
+use mathlib.Core.Option.{Option·getD}
 use lib.ListN.{length}
 use lib.Dec.{eqb, ltb}
 use Rattle.sets.specs.Search.{first-below}
@@ -41,12 +41,8 @@ record-rows log k = form-rows k (kind log k) (transaction log k) (item log k) (s
 unfoldable pub never-commits : List ℕ → ℕ → Bool
 never-commits log t = in-log log t && not (committed (history-of log) t (records log))
 
-abbrev pub place-or-zero : Option ℕ → ℕ
-place-or-zero (some k) = k
-place-or-zero none = 0
-
 unfoldable pub first-record : List ℕ → ℕ → ℕ
-first-record log t = place-or-zero (first-below (records log) (λ k. eqb (transaction log k) t))
+first-record log t = Option·getD (first-below (records log) (λ k. eqb (transaction log k) t)) 0
 
 abbrev pub end-row : List ℕ → ℕ → Row
 end-row log t = row 9 (never-commits log t) (first-record log t)

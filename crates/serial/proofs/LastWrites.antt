@@ -43,7 +43,7 @@ module _ (h : History) (sound : Sound h) (line : List ℕ) (o : InLogOrder h lin
     none-later e l v u q =
         let after = subst (λ (i : ℕ). stands-before line i (h .transaction e) ≡ true) own
         (o .keeps-conflicts d e l c v (write-then-use h d e w (write-uses h e (u .is-one)) (u .of-copy)) (λ p. q (sym p ∙ own))) in
-        let one-item = sound .one-item e d (v .there) (c .there) (write-uses h e (u .is-one)) (write-uses h d w) (u .of-copy) in
+        let one-item = sound .of-copies .one-item e d (v .there) (c .there) (write-uses h e (u .is-one)) (write-uses h d w) (u .of-copy) in
         let is-writer = writes-hit h (h .transaction e) x e (v .there) refl (u .is-one) (one-item ∙ of-item) in
         ⊎-elim q (λ (b : stands-before line (h .transaction e) t ≡ true). not-both line t (h .transaction e) (o .each-once) after b)
         (last-of-found (λ i. writes h i x) line t last .others (h .transaction e) (o .all-and-only (h .transaction e) ∙ v .part) is-writer)

@@ -10,9 +10,9 @@ use mathlib.Core.Option.{some}
 use mathlib.Core.Logic.{_⊎_, inl, inr, ⊎-elim, _↔_}
 use Rattle.sets.proofs.Truth.{clash, either}
 use Rattle.histories.specs.History.{History}
-use Rattle.histories.specs.Earlier.{wrote-item, writes}
+use Rattle.histories.specs.Earlier.{wrote-item, writes, Writer}
 use Rattle.histories.specs.Source.{source}
-use Rattle.histories.specs.Chapter.{ReadsFrom, Writer}
+use Rattle.histories.specs.Chapter.{ReadsFrom}
 use Rattle.histories.specs.Sound.{Sound}
 use Rattle.histories.proofs.OfTransactions.{wrote-item-hit}
 use Rattle.histories.proofs.Sources.{shows-found, sourced, source-record-of}
@@ -68,7 +68,7 @@ module _ (h : History) (line : List ℕ) (k : ℕ) where
         let v = sourced h k e (found .found) in
         let w = shows-found h k e (v .shown) in
         let counts = counts-of h e s (omega (arith, v .earlier, r .counts .there)) (found .own) (source-writer .part) in
-        let one-item = sound .one-item e k (counts .there) (r .counts .there) (write-uses h e (w .is-one)) (read-uses h k reads) (w .of-copy) in
+        let one-item = sound .of-copies .one-item e k (counts .there) (r .counts .there) (write-uses h e (w .is-one)) (read-uses h k reads) (w .of-copy) in
         subst (λ (t : ℕ). stands-before line t reader ≡ true) (found .own)
         (o .keeps-conflicts e k (v .earlier) counts (r .counts) (write-then-use h e k (w .is-one) (read-uses h k reads) (sym (w .of-copy)))
         (λ q. clash (wrote-item h reader title k) (wrote-item-hit h reader title e k (v .earlier) q (w .is-one) one-item) other))

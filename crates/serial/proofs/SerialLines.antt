@@ -4,10 +4,11 @@ use mathlib.Core.Path.{_≡_, sym, _∙_, subst}
 use mathlib.Core.Bool.{true}
 use mathlib.Core.List.{List}
 use mathlib.Core.Logic.{⊎-elim, _↔_}
+use Rattle.histories.specs.Earlier.{Writer}
 use Rattle.histories.specs.History.{History}
 use Rattle.histories.specs.Order.{comes-before}
 use Rattle.histories.specs.Reasons.{conflict, write-order, read-before, edge}
-use Rattle.histories.specs.Chapter.{serialization-edge, ReadsFrom, Writer}
+use Rattle.histories.specs.Chapter.{serialization-edge, ReadsFrom}
 use Rattle.histories.specs.Sound.{Sound}
 use Rattle.histories.proofs.Orders.{one-comes-first}
 use Rattle.histories.proofs.Reasons.{InWriteOrder, ReadBefore, write-order-found, read-before-found}

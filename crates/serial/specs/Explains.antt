@@ -1,4 +1,4 @@
--- What document 01's rule gives explains the history: demands 2 and 3 without bytes.
+-- What document 01's rule gives explains the history: demands 2 and 3 without bytes, and without the reasons along a cycle.
 use Prim.Native.Nat.{ℕ, _≤_}
 use mathlib.Core.Path.{_≡_}
 use mathlib.Core.Bool.{true}

@@ -6,11 +6,10 @@ use mathlib.Core.Bool.{Bool, true, _&&_}
 use mathlib.Core.List.{List}
 use mathlib.Core.Option.{Option, some}
 use Rattle.sets.specs.Search.{last-below}
-use Rattle.histories.specs.History.{History, Counts, writes-copy}
+use Rattle.histories.specs.Earlier.{Writer}
+use Rattle.histories.specs.History.{History, Counts, writes-copy, conflicting}
 use Rattle.histories.specs.Source.{source}
 use Rattle.histories.specs.Order.{comes-before}
-use Rattle.histories.specs.Reasons.{conflicting}
-use Rattle.histories.specs.Chapter.{Writer}
 use Rattle.lines.specs.Rule.{among}
 use Rattle.lines.specs.Lines.{NoneTwice, stands-before, AtMost}
 use Rattle.serial.specs.Run.{last-writer, run-writer}
