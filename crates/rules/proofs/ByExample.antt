@@ -1,12 +1,12 @@
 -- The rules by examples, each computed from the definitions alone: small logs, and what document 01's table answers of them where a wrong
 -- definition would say something else. Each proof opens all that a wrong one may use, so that it computes.
-use Prim.Native.Nat.{ℕ, _+_, _*_, _%_}
+use Prim.Native.Nat.{ℕ}
 use mathlib.Core.Path.{_≡_, refl}
 use mathlib.Core.Bool.{true, false}
 use mathlib.Core.List.{List, [], _∷_}
 use mathlib.Core.Option.{none, some}
 use lib.ListN.{length}
-use Rattle.sets.specs.Bits.{has, set-of}
+use Rattle.sets.specs.Bits.{set-of}
 use Rattle.sets.specs.Search.{some-below, some-from, first-below, last-below}
 use Rattle.histories.specs.History.{is-by, uses, uses-copy, writes-copy, writes-item, on-same-copy, conflicting}
 use Rattle.histories.specs.Earlier.{some-before, some-of, some-after, first-of, committed, wrote-copy, wrote-item, writes}
@@ -112,7 +112,7 @@ lengths-told log = record { at-the-limit = λ e. rw e refl; past-it = λ e. rw e
 
 -- The questions, the graph's set, and the lent table.
 pub record AnswersTold : Type 0 where
-  -- "the last earlier write record on the same copy" as r2[xB] is 0's; "none for a write or commit"
+  -- "the last earlier write record on the same copy": r2[xB] has source 0; "none for a write or commit"
   source-of-a-read : source-answer (w 0 x A (w 0 x B (c 0 (w 1 x A (c 1 (r 2 x B (c 2 []))))))) 5 ≡ gives (some 0)
   source-of-a-commit : source-answer (c 7 []) 0 ≡ gives none
   -- "a question names a record at or past the end, or a transaction above 63"
