@@ -1,6 +1,7 @@
 -- The order of the verdict's refusals, case by case, and what follows from each. The only file that opens `verdict-check` and
 -- `verdict-answer`.
 use Prim.Native.Nat.{ℕ, _<_, _≤_}
+use native.Mathlib.Omega.{arith}
 use mathlib.Core.Path.{_≡_, refl, _∙_}
 use mathlib.Core.List.{List, _∷_}
 use mathlib.Core.Bool.{true, false}
@@ -17,7 +18,7 @@ use Rattle.answers.specs.Verdict.{most-answer, short-buffer, verdict-row
 -- too little room, or enough
 pub short : (room : ℕ) → room < most-answer → short-buffer room ≡ true
 unfolding short-buffer
-short room l = lt-ltb room most-answer l
+short room l = lt-ltb room _ (omega (arith, l))
 
 pub roomy : (room : ℕ) → most-answer ≤ room → short-buffer room ≡ false
 unfolding short-buffer
