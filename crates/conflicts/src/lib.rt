@@ -15,9 +15,9 @@ use format::record::WRITE;
 use format::record::copy_at;
 use format::record::kind_at;
 use format::record::record_count;
-use tables::add_own;
-use tables::add_to_row;
-use tables::add_writer;
+use tables::add::add_own;
+use tables::add::add_to_row;
+use tables::add::add_writer;
 
 // The transactions with a later record that conflicts with record k: of a read the later writers of its copy, of a write all that
 // use it later.

@@ -1,25 +1,15 @@
 -- Tables of edges, one for each reason, of which the whole say what the definitions say of two transactions.
-use Prim.Native.Nat.{ℕ, _≤_}
-use mathlib.Core.Path.{_≡_, refl, sym, _∙_}
+use Prim.Native.Nat.{ℕ}
+use mathlib.Core.Path.{_≡_}
 use mathlib.Core.List.{List}
-use mathlib.Core.Bool.{Bool, false, not, _&&_, _||_}
-use lib.Dec.{eqb}
-use lib.ListN.{length}
 use Rattle.sets.specs.Bits.{Holds}
-use Rattle.sets.proofs.Truth.{and-nothing}
-use Rattle.sets.proofs.Tables.{holds-same, row-past}
+use Rattle.sets.proofs.Tables.{holds-same}
 use Rattle.histories.specs.Reasons.{conflict, write-order, read-before, edge, reason}
 use Rattle.histories.proofs.Edges.{edge-plain, reason-plain}
 use Rattle.rules.specs.LogHistory.{history-of}
 use Rattle.rules.specs.Record.{transactions}
 use Rattle.rules.proofs.PassedLogs.{all-part}
-use Rattle.edges.specs.Table.{any-reason, lowest-in}
-
--- past the end of three tables there are no edges
-pub past-all : (first second third : List ℕ) → length first ≡ transactions → length second ≡ transactions → length third ≡ transactions
-    → (i j : ℕ) → transactions ≤ i → any-reason first second third i j ≡ false
-past-all first second third a b c i j l =
-    rw (row-past first i j (rw a l), row-past second i j (rw b l), row-past third i j (rw c l), and-nothing (not (eqb i j))) refl
+use Rattle.tables.specs.ReasonTables.{any-reason, lowest-in}
 
 -- Every transaction of a record takes part in the history of a log, so the code need not ask who does.
 module _ (log first second third : List ℕ)

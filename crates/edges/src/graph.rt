@@ -8,8 +8,6 @@ ghost use Rattle.rules.specs.Questions.{members, edge-table};
 ghost use Rattle.rules.specs.Record.{transactions};
 ghost use Rattle.rules.specs.Passes.{Passes};
 ghost use Rattle.edges.specs.Promises.{GivesGraph, TellsEdge};
-use crate::table::joined;
-use crate::table::lowest_reason;
 use conflicts::conflicts;
 use format::record::Copy;
 use format::record::TRANSACTIONS;
@@ -18,6 +16,8 @@ use format::refusal::Refusal;
 use log::check::check;
 use orders::order::keep_order;
 use orders::reasons::order_edges;
+use tables::reasons::joined;
+use tables::reasons::lowest_reason;
 
 // The graph of a log: the set of its transactions, or a refusal. Its edges are in the table that was lent.
 pub enum Graph {

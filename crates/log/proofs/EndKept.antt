@@ -13,7 +13,7 @@ use Rattle.rules.specs.Record.{transactions, records}
 use Rattle.rules.specs.Refusals.{never-commits, first-record, end-row, end-rows}
 use Rattle.rules.specs.Rows.{answer-of}
 use Rattle.rules.proofs.Rows.{each-passes, over-lowest}
-use Rattle.log.specs.Kept.{KeptCommits, KeptNames}
+use Rattle.kept.specs.Kept.{KeptCommits, KeptNames}
 
 -- nobody is left without a commit
 pub all-commit : (log : List ℕ) → ((t : ℕ) → t < transactions → never-commits log t ≡ false) → answer-of (end-rows log) ≡ passed

@@ -1,4 +1,2 @@
-pub mod Keeping
-pub mod TestsKept
 pub mod EndKept
 pub mod Determined

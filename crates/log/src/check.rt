@@ -6,11 +6,7 @@ ghost use Rattle.rules.specs.Refusals.{record-rows, end-rows};
 ghost use Rattle.rules.specs.Rows.{answer-of};
 ghost use Rattle.format.specs.Numbers.{checked-says};
 ghost use Rattle.log.specs.Promises.{ChecksLength, ChecksContent, ChecksLog};
-ghost use Rattle.log.specs.Kept.{KeptCopies, KeptItems, KeptCommits, KeptNames};
-use crate::kept::history_answer;
-use crate::kept::keep_commit;
-use crate::kept::keep_first;
-use crate::kept::keep_write;
+ghost use Rattle.kept.specs.Kept.{KeptCopies, KeptItems, KeptCommits, KeptNames};
 use format::form::form_answer;
 use format::record::Copy;
 use format::record::MOST_BYTES;
@@ -20,6 +16,10 @@ use format::record::record_at;
 use format::record::record_count;
 use format::refusal::Checked;
 use format::refusal::Refusal;
+use kept::history_answer;
+use kept::keep_commit;
+use kept::keep_first;
+use kept::keep_write;
 
 // Number 9, from what is kept of a whole log: the lowest-numbered transaction that is named and has not committed.
 fn end_answer(log: &[u8], named: u64, committed: u64, firsts: &[usize; TRANSACTIONS]) -> Checked

@@ -15,8 +15,8 @@ use format::record::item_at;
 use format::record::kind_at;
 use format::record::record_count;
 use format::record::transaction_at;
-use tables::add_to_row;
-use tables::add_writer;
+use tables::add::add_to_row;
+use tables::add::add_writer;
 
 // Keeps a commit: all that commit later come after its transaction. For the records before it, its transaction commits later too.
 fn order_commit(log: &[u8], k: usize, later: u64, after: &mut [u64; TRANSACTIONS]) -> u64

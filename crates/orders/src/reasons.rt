@@ -17,7 +17,7 @@ use format::record::record_count;
 use format::record::transaction_at;
 use log::source::Found;
 use log::source::source_record;
-use tables::add_to_row;
+use tables::add::add_to_row;
 
 // The transactions that record k puts after its own by reason 2.
 fn after_by_order(

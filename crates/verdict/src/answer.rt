@@ -4,12 +4,12 @@ ghost use mathlib.Core.Path.{_≡_};
 ghost use lib.ListN.{length};
 ghost use lib.Seq.{sets};
 ghost use Rattle.rules.specs.Record.{transactions};
-ghost use Rattle.edges.specs.Table.{lowest-in};
+ghost use Rattle.tables.specs.ReasonTables.{lowest-in};
 ghost use Rattle.answers.specs.Verdict.{most-answer, entry, pairs};
 ghost use Rattle.verdict.specs.Kept.{Low, Along};
-use edges::table::lowest_reason;
 use format::record::TRANSACTIONS;
 use format::refusal::Refusal;
+use tables::reasons::lowest_reason;
 
 // A serial line or a cycle, with the number of its members, whose records are in the buffer that was lent; or a refusal.
 pub enum Verdict {

@@ -18,7 +18,6 @@ use crate::answer::reasons_along;
 use crate::answer::write_records;
 pub use edges::graph::edge_between;
 use edges::graph::edges_by_reason;
-use edges::table::joined;
 use format::record::TRANSACTIONS;
 use format::refusal::Checked;
 use format::refusal::Refusal;
@@ -27,6 +26,7 @@ use log::check::length_answer;
 pub use log::source::source_of_record;
 use sort::Sorted;
 use sort::sort;
+use tables::reasons::joined;
 
 // Numbers 1 to 9 for a log and an answer buffer of so many bytes.
 fn checked(log: &[u8], room: usize) -> Checked

@@ -14,7 +14,7 @@ use Rattle.rules.specs.Answer.{gives}
 use Rattle.rules.specs.Record.{transactions}
 use Rattle.rules.specs.Passes.{Passes}
 use Rattle.rules.specs.LogHistory.{history-of}
-use Rattle.edges.specs.Table.{lowest-in}
+use Rattle.tables.specs.ReasonTables.{lowest-in}
 use Rattle.edges.proofs.EdgeTables.{joined-whole, lowest-whole}
 use Rattle.lines.specs.Rule.{LineOrCycle, line, cycle, members-of, length-of, sorted}
 use Rattle.sort.specs.Numbers.{sorted-says}

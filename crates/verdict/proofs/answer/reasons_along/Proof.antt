@@ -6,7 +6,7 @@ use Prim.Native.Nat.{ℕ, _-_, _<_, _≤_}
 use mathlib.Core.Logic.{⊎-elim}
 use lib.ListN.{length-replicate}
 use denote.Ref.{now}
-use Rattle.edges.specs.Table.{lowest-in}
+use Rattle.tables.specs.ReasonTables.{lowest-in}
 use Rattle.answers.specs.Verdict.{entry, round-to}
 use Rattle.verdict.specs.Kept.{Along}
 use Rattle.answers.proofs.AnswerRecords.{round-next, round-back, round-low}
