@@ -1,15 +1,15 @@
 // The C face of the checker: exports on byte slices, tables and plain numbers, thin over the crates below. include/fruscalenta.h declares
 // them.
 ghost use mathlib.Core.Path.{_≡_};
-ghost use Rattle.format.specs.Numbers.{number-of, place-of};
+ghost use Rattle.refusals.specs.Numbers.{number-of, place-of};
 ghost use Rattle.clib.specs.Coding.{coded-refusal};
 ghost use Rattle.clib.specs.Promises.{ChecksInC, TellsSourceInC, TellsEdgeInC, SortsInC, JudgesInC};
 use edges::graph::Edge;
 use format::record::TRANSACTIONS;
-use format::refusal::Checked;
-use format::refusal::Refusal;
 use log::check::check;
 use log::source::Source;
+use refusals::refusal::Checked;
+use refusals::refusal::Refusal;
 use sets::NUMBERS;
 use sort::Sorted;
 use sort::sort;

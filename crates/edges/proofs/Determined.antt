@@ -4,7 +4,7 @@ use mathlib.Core.Path.{_≡_, sym, _∙_, ap}
 use mathlib.Core.List.{List}
 use Rattle.rules.specs.Answer.{Answer, gives, refused}
 use Rattle.rules.proofs.Answers.{said-number, said-place}
-use Rattle.format.proofs.Determined.{same-refusal, no-zero}
+use Rattle.refusals.proofs.Determined.{same-refusal, no-zero}
 use Rattle.edges.specs.Numbers.{graph-says, edge-says}
 use Rattle.edges.specs.Promises.{GivesGraph, TellsEdge}
 use Rattle.edges.specs.declared.graph.Graph.{Graph}

@@ -1,7 +1,7 @@
 -- What the code's answers about the graph say, in document 01's numbers.
 use Prim.Native.Nat.{ℕ}
 use Rattle.rules.specs.Answer.{Answer, gives, refused}
-use Rattle.format.specs.Numbers.{number-of, place-of}
+use Rattle.refusals.specs.Numbers.{number-of, place-of}
 use Rattle.edges.specs.declared.graph.Graph.{Graph}
 use Rattle.edges.specs.declared.graph.Graph.the-variants.{Of, Refused}
 use Rattle.edges.specs.declared.graph.Edge.{Edge}

@@ -11,11 +11,11 @@ ghost use Rattle.edges.specs.Promises.{GivesGraph, TellsEdge};
 use conflicts::conflicts;
 use format::record::Copy;
 use format::record::TRANSACTIONS;
-use format::refusal::Checked;
-use format::refusal::Refusal;
 use log::check::check;
 use orders::order::keep_order;
 use orders::reasons::order_edges;
+use refusals::refusal::Checked;
+use refusals::refusal::Refusal;
 use tables::reasons::joined;
 use tables::reasons::lowest_reason;
 

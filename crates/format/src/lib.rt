@@ -1,4 +1,2 @@
-// The format of a log: its records, the copies they name, the ranges of their numbers, and the refusals.
-pub mod form;
+// The format of a log: its records, as their bytes stand, and the copies that they name.
 pub mod record;
-pub mod refusal;

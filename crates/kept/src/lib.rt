@@ -7,7 +7,7 @@ ghost use Rattle.rules.specs.Record.{Within, is-read};
 ghost use Rattle.rules.specs.Refusals.{read-rows, history-rows};
 ghost use Rattle.rules.specs.Rows.{answer-of};
 ghost use Rattle.rules.specs.LogHistory.{history-of};
-ghost use Rattle.format.specs.Numbers.{checked-says};
+ghost use Rattle.refusals.specs.Numbers.{checked-says};
 ghost use Rattle.kept.specs.Kept.{KeptCopies, KeptItems, KeptCommits, KeptNames};
 use format::record::COMMIT;
 use format::record::Copy;
@@ -18,8 +18,8 @@ use format::record::copy_at;
 use format::record::item_at;
 use format::record::kind_at;
 use format::record::transaction_at;
-use format::refusal::Checked;
-use format::refusal::Refusal;
+use refusals::refusal::Checked;
+use refusals::refusal::Refusal;
 
 // Numbers 7 and 8 at record k, a read.
 fn read_answer(

@@ -6,8 +6,8 @@ use mathlib.Core.List.{List}
 use mathlib.Core.Option.{Option, none, some}
 use Rattle.rules.specs.Answer.{Answer, gives, refused}
 use Rattle.rules.proofs.Answers.{said-number, said-place}
-use Rattle.format.specs.declared.refusal.Checked.{Checked}
-use Rattle.format.proofs.Determined.{same-refusal, no-zero, same-checked}
+use Rattle.refusals.specs.declared.refusal.Checked.{Checked}
+use Rattle.refusals.proofs.Determined.{same-refusal, no-zero, same-checked}
 use Rattle.log.specs.Numbers.{source-says, found-says}
 use Rattle.log.specs.Promises.{ChecksLength, ChecksContent, ChecksLog, FindsSource, TellsSource}
 use Rattle.log.specs.declared.source.Found.{Found}

@@ -2,7 +2,7 @@
 use Prim.Native.Nat.{ℕ}
 use mathlib.Core.Option.{Option, none, some}
 use Rattle.rules.specs.Answer.{Answer, gives, refused}
-use Rattle.format.specs.Numbers.{number-of, place-of}
+use Rattle.refusals.specs.Numbers.{number-of, place-of}
 use Rattle.log.specs.declared.source.Found.{Found}
 use Rattle.log.specs.declared.source.Found.the-variants.{At, None as NoneFound}
 use Rattle.log.specs.declared.source.Source.{Source}

@@ -3,8 +3,8 @@
 use Prim.Native.Nat.{ℕ}
 use mathlib.Core.Path.{_≡_}
 use mathlib.Core.List.{List}
-use Rattle.format.specs.Numbers.{checked-says}
-use Rattle.format.specs.declared.refusal.Checked.{Checked}
+use Rattle.refusals.specs.Numbers.{checked-says}
+use Rattle.refusals.specs.declared.refusal.Checked.{Checked}
 use Rattle.histories.specs.Source.{source-record}
 use Rattle.rules.specs.LogHistory.{history-of}
 use Rattle.rules.specs.Questions.{source-answer}

@@ -4,22 +4,22 @@ ghost use Prim.Native.Nat.{_<_};
 ghost use Rattle.rules.specs.Record.{records};
 ghost use Rattle.rules.specs.Refusals.{record-rows, end-rows};
 ghost use Rattle.rules.specs.Rows.{answer-of};
-ghost use Rattle.format.specs.Numbers.{checked-says};
+ghost use Rattle.refusals.specs.Numbers.{checked-says};
 ghost use Rattle.log.specs.Promises.{ChecksLength, ChecksContent, ChecksLog};
 ghost use Rattle.kept.specs.Kept.{KeptCopies, KeptItems, KeptCommits, KeptNames};
-use format::form::form_answer;
 use format::record::Copy;
 use format::record::MOST_BYTES;
 use format::record::RECORD_BYTES;
 use format::record::TRANSACTIONS;
 use format::record::record_at;
 use format::record::record_count;
-use format::refusal::Checked;
-use format::refusal::Refusal;
 use kept::history_answer;
 use kept::keep_commit;
 use kept::keep_first;
 use kept::keep_write;
+use refusals::form::form_answer;
+use refusals::refusal::Checked;
+use refusals::refusal::Refusal;
 
 // Number 9, from what is kept of a whole log: the lowest-numbered transaction that is named and has not committed.
 fn end_answer(log: &[u8], named: u64, committed: u64, firsts: &[usize; TRANSACTIONS]) -> Checked

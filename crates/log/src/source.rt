@@ -13,8 +13,8 @@ use format::record::copy_at;
 use format::record::kind_at;
 use format::record::record_at;
 use format::record::record_count;
-use format::refusal::Checked;
-use format::refusal::Refusal;
+use refusals::refusal::Checked;
+use refusals::refusal::Refusal;
 
 // A record's place, or none.
 pub enum Found {

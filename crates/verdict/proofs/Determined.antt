@@ -4,7 +4,7 @@ use native.Mathlib.Omega.{arith}
 use mathlib.Core.Path.{_≡_, sym, _∙_, ap}
 use mathlib.Core.List.{List}
 use Rattle.rules.proofs.Answers.{never-both, said-number, said-place}
-use Rattle.format.proofs.Determined.{same-refusal}
+use Rattle.refusals.proofs.Determined.{same-refusal}
 use Rattle.lines.specs.Rule.{line, cycle}
 use Rattle.verdict.specs.Numbers.{verdict-says}
 use Rattle.verdict.specs.Promises.{JudgesLog}

@@ -8,7 +8,7 @@ ghost use Rattle.tables.specs.ReasonTables.{lowest-in};
 ghost use Rattle.answers.specs.Verdict.{most-answer, entry, pairs};
 ghost use Rattle.verdict.specs.Kept.{Low, Along};
 use format::record::TRANSACTIONS;
-use format::refusal::Refusal;
+use refusals::refusal::Refusal;
 use tables::reasons::lowest_reason;
 
 // A serial line or a cycle, with the number of its members, whose records are in the buffer that was lent; or a refusal.

@@ -1,7 +1,7 @@
 -- `clib::fruscalenta_check` meets its contract: each case of the check's answer is coded as what it says.
 use borrow.Author.Needs.{needs}
 use mathlib.Core.Path.{_∙_, sym, ap}
-use Rattle.format.specs.Numbers.{checked-says}
+use Rattle.refusals.specs.Numbers.{checked-says}
 use Rattle.clib.specs.Coding.{coded, passed-value}
 use Rattle.clib.proofs.fruscalenta_check.Statement.{statement}
 use Rattle.clib.proofs.fruscalenta_check.Tie as tie

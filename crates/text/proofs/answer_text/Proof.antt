@@ -6,7 +6,7 @@ use mathlib.Core.Bool.{Bool, true, false}
 use mathlib.Core.List.{List, _++_}
 use lib.ListN.{length}
 use denote.Ref.{now}
-use Rattle.format.specs.Numbers.{number-of, place-of}
+use Rattle.refusals.specs.Numbers.{number-of, place-of}
 use Rattle.verdict.specs.Numbers.{verdict-says}
 use Rattle.verdict.specs.declared.answer.Verdict.{Verdict}
 use Rattle.text.specs.Text.{serial-word, cycle-word, first-line, refusal-line, record-lines, printed-answer, text-room}

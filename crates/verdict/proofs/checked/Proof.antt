@@ -7,7 +7,7 @@ use denote.Ref.{now}
 use native.Mathlib.Omega.{arith}
 use Rattle.rules.specs.Answer.{passed}
 use Rattle.rules.specs.Refusals.{length-answer}
-use Rattle.format.specs.Numbers.{checked-says}
+use Rattle.refusals.specs.Numbers.{checked-says}
 use Rattle.answers.proofs.VerdictRows.{short, roomy, by-length, by-room, by-content}
 use Rattle.verdict.proofs.checked.Statement.{statement}
 use Rattle.verdict.proofs.checked.Tie as tie

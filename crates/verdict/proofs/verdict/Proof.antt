@@ -7,7 +7,7 @@ use lib.ListN.{length}
 use lib.Seq.{sets}
 use denote.Ref.{now}
 use Rattle.rules.specs.Answer.{Answer, gives, passed}
-use Rattle.format.specs.Numbers.{checked-says}
+use Rattle.refusals.specs.Numbers.{checked-says}
 use Rattle.lines.specs.Rule.{LineOrCycle}
 use Rattle.answers.specs.Verdict.{verdict-check, line-or-cycle, verdict-answer, answer-records, how-many}
 use Rattle.answers.proofs.VerdictRows.{check-passes, enough-room, answer-refused, answer-given}

@@ -8,7 +8,7 @@ use Rattle.rules.specs.Answer.{gives, passed}
 use Rattle.rules.specs.Refusals.{check-answer}
 use Rattle.rules.proofs.PassedLogs.{passed-passes}
 use Rattle.rules.proofs.Asked.{edge-refused, edge-from-none, edge-to-none, edge-given}
-use Rattle.format.specs.Numbers.{checked-says}
+use Rattle.refusals.specs.Numbers.{checked-says}
 use Rattle.edges.proofs.graph.edge_between.Statement.{statement}
 use Rattle.edges.proofs.graph.edge_between.Tie as tie
 

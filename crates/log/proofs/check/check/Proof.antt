@@ -2,7 +2,7 @@
 use borrow.Author.Needs.{needs}
 use mathlib.Core.Path.{_∙_, sym, ap}
 use denote.Ref.{now}
-use Rattle.format.specs.Numbers.{checked-says}
+use Rattle.refusals.specs.Numbers.{checked-says}
 use Rattle.rules.proofs.Table.{check-length, check-content}
 use Rattle.log.proofs.check.check.Statement.{statement}
 use Rattle.log.proofs.check.check.Tie as tie

@@ -14,7 +14,7 @@ use Rattle.rules.specs.Refusals.{record-rows}
 use Rattle.rules.specs.Rows.{answer-of, over}
 use Rattle.rules.proofs.Rows.{over-zero, over-step}
 use Rattle.rules.proofs.Table.{within-passed, content-refused, content-ends}
-use Rattle.format.specs.Numbers.{checked-says}
+use Rattle.refusals.specs.Numbers.{checked-says}
 use Rattle.kept.specs.Kept.{KeptCopies, KeptItems, KeptCommits, KeptNames}
 use Rattle.kept.proofs.Keeping.{writers-start, commits-start, names-start}
 use Rattle.log.proofs.check.content_answer.Statement.{statement}

@@ -13,7 +13,7 @@ use Rattle.rules.specs.LogHistory.{history-of}
 use Rattle.rules.specs.Refusals.{history-rows}
 use Rattle.rules.proofs.Rows.{append-passed, append-refused}
 use Rattle.rules.proofs.Table.{within-formed}
-use Rattle.format.specs.Numbers.{checked-says}
+use Rattle.refusals.specs.Numbers.{checked-says}
 use Rattle.log.proofs.check.record_answer.Statement.{statement}
 use Rattle.log.proofs.check.record_answer.Tie as tie
 

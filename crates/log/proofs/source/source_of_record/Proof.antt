@@ -16,7 +16,7 @@ use Rattle.rules.specs.Record.{records}
 use Rattle.rules.specs.Refusals.{check-answer}
 use Rattle.rules.proofs.PassedLogs.{passed-passes}
 use Rattle.rules.proofs.Asked.{asked-refused, asked-past, asked}
-use Rattle.format.specs.Numbers.{checked-says}
+use Rattle.refusals.specs.Numbers.{checked-says}
 use Rattle.log.specs.Numbers.{found-says}
 use Rattle.log.proofs.source.source_of_record.Statement.{statement}
 use Rattle.log.proofs.source.source_of_record.Tie as tie

@@ -4,12 +4,12 @@ use native.Mathlib.Omega.{arith}
 use mathlib.Core.Path.{_≡_, refl, sym, _∙_, ap, ap₂}
 use mathlib.Core.List.{[], _∷_}
 use lib.ListN.{getD}
-use Rattle.format.specs.Numbers.{number-of, place-of, checked-says}
-use Rattle.format.specs.declared.refusal.Refusal.{Refusal}
-use Rattle.format.specs.declared.refusal.Refusal.the-variants.{TooLong, Ragged, ShortBuffer, BadKind, OutOfRange, AfterCommit}
-use Rattle.format.specs.declared.refusal.Refusal.the-variants.{ReadsUnwritten, ReadsPastOwn, NeverCommits, BadQuestion}
-use Rattle.format.specs.declared.refusal.Checked.{Checked}
-use Rattle.format.specs.declared.refusal.Checked.the-variants.{Passed, Refused}
+use Rattle.refusals.specs.Numbers.{number-of, place-of, checked-says}
+use Rattle.refusals.specs.declared.refusal.Refusal.{Refusal}
+use Rattle.refusals.specs.declared.refusal.Refusal.the-variants.{TooLong, Ragged, ShortBuffer, BadKind, OutOfRange, AfterCommit}
+use Rattle.refusals.specs.declared.refusal.Refusal.the-variants.{ReadsUnwritten, ReadsPastOwn, NeverCommits, BadQuestion}
+use Rattle.refusals.specs.declared.refusal.Checked.{Checked}
+use Rattle.refusals.specs.declared.refusal.Checked.the-variants.{Passed, Refused}
 use Rattle.rules.proofs.Answers.{said-number, said-place}
 
 -- the refusal of a number and a place: the cases stand in the order of their numbers

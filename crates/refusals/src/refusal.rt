@@ -1,6 +1,6 @@
 // Refusals, with a case for each number of document 01, and the answer of a check.
 ghost use mathlib.Core.Path.{_≡_};
-ghost use Rattle.format.specs.Numbers.{number-of, place-of};
+ghost use Rattle.refusals.specs.Numbers.{number-of, place-of};
 
 // The cases that are found at a record carry its place.
 pub enum Refusal {

@@ -5,14 +5,14 @@ ghost use lib.Dec.{ltb};
 ghost use Rattle.rules.specs.Form.{form-rows};
 ghost use Rattle.rules.specs.Record.{transactions};
 ghost use Rattle.rules.specs.Rows.{row-answer, answer-of};
-ghost use Rattle.format.specs.Numbers.{checked-says};
-use crate::record::COMMIT;
-use crate::record::Copy;
-use crate::record::LAST_TRANSACTION;
-use crate::record::READ;
-use crate::record::WRITE;
+ghost use Rattle.refusals.specs.Numbers.{checked-says};
 use crate::refusal::Checked;
 use crate::refusal::Refusal;
+use format::record::COMMIT;
+use format::record::Copy;
+use format::record::LAST_TRANSACTION;
+use format::record::READ;
+use format::record::WRITE;
 
 // Number 5 for the transaction, which every kind of record names from the same range.
 fn transaction_form(k: usize, transaction: u8) -> Checked

@@ -1,7 +1,7 @@
--- `format::form::transaction_form` meets its contract: its range is the test.
+-- `refusals::form::transaction_form` meets its contract: its range is the test.
 use borrow.Author.Tests.{lt-ltb, le-ltb}
-use Rattle.format.proofs.form.transaction_form.Statement.{statement}
-use Rattle.format.proofs.form.transaction_form.Tie as tie
+use Rattle.refusals.proofs.form.transaction_form.Statement.{statement}
+use Rattle.refusals.proofs.form.transaction_form.Tie as tie
 
 returns : tie.Need-returns
 returns c = simp (lt-ltb _ _ (c .if1 .taken))

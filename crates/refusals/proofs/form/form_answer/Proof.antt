@@ -1,11 +1,11 @@
--- `format::form::form_answer` meets its contract: in each arm the law for its kinds says which ranges are asked, and the arms'
+-- `refusals::form::form_answer` meets its contract: in each arm the law for its kinds says which ranges are asked, and the arms'
 -- own tests answer them.
 use borrow.Author.Needs.{needs}
 use borrow.Author.Tests.{lt-ltb, le-ltb, eq-eqb, ne-eqb}
 use native.Mathlib.Omega.{arith}
 use Rattle.rules.proofs.Forms.{access-form, commit-form, no-form}
-use Rattle.format.proofs.form.form_answer.Statement.{statement}
-use Rattle.format.proofs.form.form_answer.Tie as tie
+use Rattle.refusals.proofs.form.form_answer.Statement.{statement}
+use Rattle.refusals.proofs.form.form_answer.Tie as tie
 
 transaction-form-requires : tie.Need-transaction-form-requires
 transaction-form-requires c κs = search needs

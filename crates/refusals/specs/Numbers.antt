@@ -2,11 +2,11 @@
 -- definitions.
 use Prim.Native.Nat.{ℕ}
 use Rattle.rules.specs.Answer.{Answer, refused, passed}
-use Rattle.format.specs.declared.refusal.Refusal.{Refusal}
-use Rattle.format.specs.declared.refusal.Refusal.the-variants.{TooLong, Ragged, ShortBuffer, BadKind, OutOfRange, AfterCommit}
-use Rattle.format.specs.declared.refusal.Refusal.the-variants.{ReadsUnwritten, ReadsPastOwn, NeverCommits, BadQuestion}
-use Rattle.format.specs.declared.refusal.Checked.{Checked}
-use Rattle.format.specs.declared.refusal.Checked.the-variants.{Passed, Refused}
+use Rattle.refusals.specs.declared.refusal.Refusal.{Refusal}
+use Rattle.refusals.specs.declared.refusal.Refusal.the-variants.{TooLong, Ragged, ShortBuffer, BadKind, OutOfRange, AfterCommit}
+use Rattle.refusals.specs.declared.refusal.Refusal.the-variants.{ReadsUnwritten, ReadsPastOwn, NeverCommits, BadQuestion}
+use Rattle.refusals.specs.declared.refusal.Checked.{Checked}
+use Rattle.refusals.specs.declared.refusal.Checked.the-variants.{Passed, Refused}
 
 abbrev pub number-of : Refusal → ℕ
 number-of TooLong = 1

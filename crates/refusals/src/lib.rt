@@ -1,0 +1,3 @@
+// Refusals: their numbers and places, and those that look at one record alone.
+pub mod form;
+pub mod refusal;
