@@ -15,7 +15,7 @@ use Rattle.verdict.proofs.answer.reasons_along.Statement.{statement}
 use Rattle.verdict.proofs.answer.reasons_along.Tie as tie
 use Rattle.verdict.proofs.answer.reasons_along.Reads as reads
 use Rattle.verdict.proofs.answer.reasons_along.Lts as lts
-use Rattle.edges.proofs.table.lowest_reason.Reads as lowest-reason-reads
+use Rattle.tables.proofs.reasons.lowest_reason.Reads as lowest-reason-reads
 
 abbrev Inv-loop : tie.InvT-loop
 Inv-loop by-conflict by-order by-read members n reasons₀ k₀ reasons k =
