@@ -14,7 +14,8 @@ use Rattle.sets.proofs.Counts.{count-low, count-some, count-without, passed-bef
 use Rattle.lines.specs.Rule.{next, placed, rest}
 use Rattle.lines.proofs.Chosen.{next-is}
 use Rattle.lines.proofs.Clauses.{placed-none, placed-some, rest-none, rest-some}
-use Rattle.sort.specs.WaitsFor.{Kept, Searched}
+use Rattle.cycles.specs.WaitsFor.{Kept}
+use Rattle.sort.specs.Searched.{Searched}
 use Rattle.sort.specs.Promises.{FindsReady, PlacesAll}
 use Rattle.sort.specs.declared.search.Ready.{Ready}
 use Rattle.sort.proofs.Waits.{searched-fewer}

@@ -14,7 +14,8 @@ use Rattle.sets.proofs.From.{FirstFrom}
 use Rattle.lines.specs.Rule.{next, lowest-predecessor}
 use Rattle.lines.specs.Lines.{Below}
 use Rattle.lines.proofs.Waiting.{Free, Tried, free-on, free-past, first-is-lowest, tried-on, ready-found, none-found}
-use Rattle.sort.specs.WaitsFor.{Kept, Searched}
+use Rattle.cycles.specs.WaitsFor.{Kept}
+use Rattle.sort.specs.Searched.{Searched}
 use Rattle.sort.specs.Promises.{FindsReady}
 use Rattle.sort.specs.declared.search.Ready.the-variants.{At, None}
 use Rattle.sort.proofs.Waits.{kept-in, kept-store, searched-store, tried-store}

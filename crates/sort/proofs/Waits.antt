@@ -16,7 +16,8 @@ use Rattle.sets.proofs.Truth.{clash, refuted}
 use Rattle.sets.proofs.From.{FirstFrom, first-from-view}
 use Rattle.sets.proofs.Counts.{without-said}
 use Rattle.lines.specs.Rule.{predecessor, lowest-predecessor}
-use Rattle.sort.specs.WaitsFor.{Kept, Searched}
+use Rattle.cycles.specs.WaitsFor.{Kept}
+use Rattle.sort.specs.Searched.{Searched}
 use Rattle.lines.proofs.Chosen.{predecessor-more}
 use Rattle.lines.proofs.Waiting.{Free, Tried}
 

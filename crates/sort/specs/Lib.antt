@@ -1,3 +1,3 @@
-pub mod WaitsFor
+pub mod Searched
 pub mod Numbers
 pub mod Promises

@@ -2,15 +2,16 @@
 -- theorem that the answer is determined.
 use Prim.Native.Nat.{ℕ}
 use mathlib.Core.Path.{_≡_}
-use mathlib.Core.Bool.{Bool, true}
+use mathlib.Core.Bool.{Bool}
 use mathlib.Core.List.{List}
 use mathlib.Core.Option.{none}
-use lib.ListN.{length, drop}
+use lib.ListN.{length}
 use lib.Seq.{sets}
 use Rattle.sets.specs.Bits.{numbers, has, in-row}
-use Rattle.lines.specs.Rule.{LineOrCycle, among, next, placed, rest, up-to, sorted, members-of, length-of}
+use Rattle.lines.specs.Rule.{LineOrCycle, next, placed, rest, sorted, members-of, length-of}
+use Rattle.cycles.specs.WaitsFor.{Kept}
 use Rattle.sort.specs.Numbers.{ready-says, sorted-says}
-use Rattle.sort.specs.WaitsFor.{Kept, Searched, Blocked, walked}
+use Rattle.sort.specs.Searched.{Searched, Blocked}
 use Rattle.sort.specs.declared.search.Ready.{Ready}
 use Rattle.sort.specs.declared.Sorted.{Sorted}
 
@@ -43,9 +44,3 @@ pub record PlacesAll
   pub same-rest : (t : ℕ) → left t ≡ rest numbers edge numbers set t
   pub kept : Kept waits
   pub blocked : Blocked edge left waits
-
--- the walk back: of the predecessors kept and the first of the walk, the buffer left, where the path starts in it, and who came again
-pub record WalksBack (waits : List ℕ) (first : ℕ) (path : List ℕ) (at again : ℕ) : Type 0 where
-  pub whole : length path ≡ numbers
-  pub comes-again : among (drop at path) again ≡ true
-  pub is-walk : up-to again (drop at path) ≡ walked waits first

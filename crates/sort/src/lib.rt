@@ -1,15 +1,13 @@
 // The sort: the smallest line of a set of transactions that keeps every edge of a table, or a cycle of its edges. It knows tables of
-// edges and sets, and no logs.
+// edges and sets, and no logs. The line is placed here; the cycle is walked and written by `cycles`.
 ghost use Rattle.sort.specs.Promises.{SortsTable};
 
-mod cycle;
 mod line;
-mod part;
 mod search;
 
-use crate::cycle::write_cycle;
 use crate::line::place_all;
-use crate::part::write_part;
+use cycles::cycle::write_cycle;
+use cycles::part::write_part;
 use sets::NUMBERS;
 
 // A line or a cycle, and how many members it has. They are in the buffer that was lent.

@@ -1,6 +1,7 @@
 // The line: transactions placed by the rule until none can be placed.
 ghost use Rattle.sets.specs.Bits.{has, in-row};
-ghost use Rattle.sort.specs.WaitsFor.{Kept, Searched};
+ghost use Rattle.cycles.specs.WaitsFor.{Kept};
+ghost use Rattle.sort.specs.Searched.{Searched};
 ghost use Rattle.sort.specs.Promises.{PlacesAll};
 use crate::search::Ready;
 use crate::search::lowest_ready;

@@ -1,6 +1,7 @@
 // The search for the transaction that is ready for the next place of the line.
 ghost use Rattle.sets.specs.Bits.{has, in-row};
-ghost use Rattle.sort.specs.WaitsFor.{Kept, Searched};
+ghost use Rattle.cycles.specs.WaitsFor.{Kept};
+ghost use Rattle.sort.specs.Searched.{Searched};
 ghost use Rattle.sort.specs.Promises.{FindsReady};
 use sets::NUMBERS;
 

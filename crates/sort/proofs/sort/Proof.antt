@@ -12,11 +12,11 @@ use Rattle.sets.specs.Bits.{numbers, has, in-row}
 use Rattle.sets.proofs.Tables.{empty-entry}
 use Rattle.sets.proofs.From.{FirstFrom}
 use Rattle.lines.specs.Rule.{LineOrCycle, line, cycle, length-of, members-of, placed, rest}
-use Rattle.sort.specs.WaitsFor.{back}
+use Rattle.cycles.specs.WaitsFor.{back}
 use Rattle.sort.proofs.Waits.{found-from, kept-start, searched-start}
 use Rattle.lines.proofs.Endings.{ends-in-line, ends-in-cycle}
 use Rattle.lines.proofs.Placing.{placed-fits}
-use Rattle.sort.proofs.Parts.{front-written}
+use Rattle.cycles.proofs.Parts.{front-written}
 use Rattle.sort.proofs.sort.Statement.{statement}
 use Rattle.sort.proofs.sort.Tie as tie
 

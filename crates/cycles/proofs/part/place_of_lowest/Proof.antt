@@ -1,4 +1,4 @@
--- `sort::part::place_of_lowest` meets its contract. The invariant: of the part up to k the lowest stands at `low`, and before it nothing as
+-- `cycles::part::place_of_lowest` meets its contract. The invariant: of the part up to k the lowest stands at `low`, and before it nothing as
 -- low. The laws in Parts say how it goes on.
 use native.Mathlib.Omega.{arith}
 use mathlib.Core.Path.{_≡_, sym, subst}
@@ -6,9 +6,9 @@ use mathlib.Core.Logic.{⊎-elim}
 use mathlib.Core.List.{List}
 use Prim.Native.Nat.{ℕ, _+_, _-_, _<_, _≤_}
 use denote.Ref.{now}
-use Rattle.sort.proofs.Parts.{LowestAt, lowest-start, lowest-new, lowest-stays, part-lowest}
-use Rattle.sort.proofs.part.place_of_lowest.Statement.{statement}
-use Rattle.sort.proofs.part.place_of_lowest.Tie as tie
+use Rattle.cycles.proofs.Parts.{LowestAt, lowest-start, lowest-new, lowest-stays, part-lowest}
+use Rattle.cycles.proofs.part.place_of_lowest.Statement.{statement}
+use Rattle.cycles.proofs.part.place_of_lowest.Tie as tie
 
 record LowestSoFar (buffer : List ℕ) (at end low k : ℕ) : Type 0 where
   pub inside : low < end

@@ -5,17 +5,17 @@ ghost use lib.ListN.{length};
 ghost use lib.Seq.{sets};
 ghost use Rattle.sets.specs.Bits.{numbers};
 ghost use Rattle.lines.specs.Rule.{to-lowest};
-ghost use Rattle.sort.specs.WaitsFor.{Kept, walked};
-ghost use Rattle.sort.specs.Promises.{WalksBack};
+ghost use Rattle.cycles.specs.WaitsFor.{Kept, walked};
+ghost use Rattle.cycles.specs.Promises.{WalksBack};
 use crate::part::place_of;
 use crate::part::place_of_lowest;
 use crate::part::write_part;
 use sets::NUMBERS;
 
 // Where the path of a walk starts in its buffer, and the transaction that came again.
-pub struct Walked {
-    pub at: usize,
-    pub again: u8,
+struct Walked {
+    at: usize,
+    again: u8,
 }
 
 // Walks back from a transaction, each time to the one that is waited for, until one comes again. The path stands at the end of the buffer,
@@ -42,7 +42,7 @@ fn walk_back(waits: &[u8; NUMBERS], first: usize, path: &mut [u8; NUMBERS]) -> W
 }
 
 // Writes the cycle that the walk back from a transaction leads to, from its lowest number on. The result is how many members it has.
-pub(crate) fn write_cycle(waits: &[u8; NUMBERS], first: usize, members: &mut [u8; NUMBERS]) -> usize
+pub fn write_cycle(waits: &[u8; NUMBERS], first: usize, members: &mut [u8; NUMBERS]) -> usize
     requires { ⌜ Kept (now waits) ⌝ }
     requires { ⌜ first < numbers ⌝ }
     ensures { λ r. ⌜ r ≡ length (to-lowest (walked (now (waits .entry)) first)) ⌝ }

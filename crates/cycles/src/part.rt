@@ -37,13 +37,7 @@ pub(crate) fn place_of_lowest(buffer: &[u8; NUMBERS], at: usize, end: usize) -> 
 }
 
 // Writes the part from `start` to `end` of one buffer to another, there from `at` on.
-pub(crate) fn write_part(
-    from: &[u8; NUMBERS],
-    start: usize,
-    end: usize,
-    to: &mut [u8; NUMBERS],
-    at: usize,
-)
+pub fn write_part(from: &[u8; NUMBERS], start: usize, end: usize, to: &mut [u8; NUMBERS], at: usize)
     requires { ⌜ length (now from) ≡ numbers ⌝ }
     requires { ⌜ (start ≤ end) × (end ≤ numbers) ⌝ }
     requires { ⌜ at + end ≤ start + numbers ⌝ }

@@ -1,4 +1,4 @@
--- `sort::cycle::write_cycle` meets its contract: the laws in CycleWritten say what the two parts written are.
+-- `cycles::cycle::write_cycle` meets its contract: the laws in CycleWritten say what the two parts written are.
 use borrow.Author.Needs.{needs}
 use native.Mathlib.Omega.{arith}
 use mathlib.Core.Path.{_≡_}
@@ -10,10 +10,10 @@ use lib.Seq.{sets, slice}
 use denote.Ref.{now}
 use Rattle.sets.specs.Bits.{numbers}
 use Rattle.lines.specs.Rule.{among, place-of, lowest-member}
-use Rattle.sort.specs.WaitsFor.{walked}
-use Rattle.sort.proofs.CycleWritten.{last-low, low-from, low-to, walk-written, walk-count}
-use Rattle.sort.proofs.cycle.write_cycle.Statement.{statement}
-use Rattle.sort.proofs.cycle.write_cycle.Tie as tie
+use Rattle.cycles.specs.WaitsFor.{walked}
+use Rattle.cycles.proofs.CycleWritten.{last-low, low-from, low-to, walk-written, walk-count}
+use Rattle.cycles.proofs.cycle.write_cycle.Statement.{statement}
+use Rattle.cycles.proofs.cycle.write_cycle.Tie as tie
 
 walk-back-requires : tie.Need-walk-back-requires
 walk-back-requires c κs = search needs

@@ -1,4 +1,4 @@
--- While the sort walks back, the path at the end of the buffer is the rule's path, and what is still to come is the rule's walk. No
+-- While the walk goes back, the path at the end of the buffer is the rule's path, and what is still to come is the rule's walk. No
 -- transaction is on it twice, so it never outgrows the buffer.
 use Prim.Native.Nat.{ℕ, suc, _-_, _<_, _≤_}
 use native.Mathlib.Omega.{arith}
@@ -16,7 +16,7 @@ use Rattle.sets.proofs.Members.{has-zero}
 use Rattle.sets.proofs.Counts.{count-low}
 use Rattle.lines.specs.Rule.{among, walk, up-to}
 use Rattle.lines.specs.Lines.{NoneTwice}
-use Rattle.sort.specs.WaitsFor.{back}
+use Rattle.cycles.specs.WaitsFor.{back}
 use Rattle.lines.proofs.Lists.{among-nil, among-cons, among-cases, pigeonhole}
 use Rattle.lines.proofs.Clauses.{walk-steps}
 

@@ -10,7 +10,7 @@ use lib.Seq.{sets, slice, take-add, take-take, drop-at, drop-drop, length-take-l
 use Rattle.lines.specs.Rule.{among, place-of, lowest-member, turned, to-lowest, up-to}
 use Rattle.lines.proofs.Turned.{length-turned, lowest-member-in, to-lowest-said}
 use Rattle.lines.proofs.Lists.{place-low, sets-append}
-use Rattle.sort.proofs.Parts.{place-in}
+use Rattle.cycles.proofs.Parts.{place-in}
 
 -- a part of m from `at` on
 slice-take : (path : List ℕ) (at m : ℕ) → at ≤ length path → slice at (at + m) path ≡ take m (drop at path)

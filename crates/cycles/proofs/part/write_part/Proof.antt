@@ -1,4 +1,4 @@
--- `sort::part::write_part` meets its contract. The invariant: the part up to k has been written.
+-- `cycles::part::write_part` meets its contract. The invariant: the part up to k has been written.
 use native.Mathlib.Omega.{arith}
 use mathlib.Core.Path.{_≡_, _∙_, ap}
 use mathlib.Core.List.{List}
@@ -7,9 +7,9 @@ use lib.ListN.{set, getD}
 use lib.Seq.{sets, slice}
 use denote.Ref.{now}
 use Rattle.sets.specs.Bits.{numbers}
-use Rattle.sort.proofs.Parts.{part-none, part-more}
-use Rattle.sort.proofs.part.write_part.Statement.{statement}
-use Rattle.sort.proofs.part.write_part.Tie as tie
+use Rattle.cycles.proofs.Parts.{part-none, part-more}
+use Rattle.cycles.proofs.part.write_part.Statement.{statement}
+use Rattle.cycles.proofs.part.write_part.Tie as tie
 
 record WrittenTo (from : List ℕ) (start end : ℕ) (old : List ℕ) (at : ℕ) (to : List ℕ) (k : ℕ) : Type 0 where
   pub begun : start ≤ k

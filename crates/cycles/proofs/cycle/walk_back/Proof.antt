@@ -1,4 +1,4 @@
--- `sort::cycle::walk_back` meets its contract. The invariant: the path at the end of the buffer is the rule's.
+-- `cycles::cycle::walk_back` meets its contract. The invariant: the path at the end of the buffer is the rule's.
 use native.Mathlib.Omega.{arith}
 use mathlib.Core.Path.{_≡_, sym, _∙_}
 use mathlib.Core.Bool.{true, false}
@@ -7,10 +7,10 @@ use Prim.Native.Nat.{ℕ, _≤_}
 use denote.Ref.{now}
 use borrow.Author.Tests.{not-true, not-false}
 use Rattle.sets.specs.Bits.{numbers, has}
-use Rattle.sort.specs.WaitsFor.{Kept}
-use Rattle.sort.proofs.WalkLoop.{OnPath, path-start, path-room, path-step, comes-again, walk-done}
-use Rattle.sort.proofs.cycle.walk_back.Statement.{statement}
-use Rattle.sort.proofs.cycle.walk_back.Tie as tie
+use Rattle.cycles.specs.WaitsFor.{Kept}
+use Rattle.cycles.proofs.WalkLoop.{OnPath, path-start, path-room, path-step, comes-again, walk-done}
+use Rattle.cycles.proofs.cycle.walk_back.Statement.{statement}
+use Rattle.cycles.proofs.cycle.walk_back.Tie as tie
 
 abbrev Inv-loop : tie.InvT-loop
 Inv-loop waits first path₀ at₀ seen₀ again₀ path at seen again = OnPath numbers waits first path at seen again

@@ -1,4 +1,4 @@
--- `sort::part::place_of` meets its contract. The invariant: the place is k or further on.
+-- `cycles::part::place_of` meets its contract. The invariant: the place is k or further on.
 use native.Mathlib.Omega.{arith}
 use mathlib.Core.List.{List}
 use Prim.Native.Nat.{ℕ, _+_, _-_, _<_, _≤_}
@@ -6,9 +6,9 @@ use lib.ListN.{drop}
 use denote.Ref.{now}
 use Rattle.sets.specs.Bits.{numbers}
 use Rattle.lines.specs.Rule.{place-of}
-use Rattle.sort.proofs.Parts.{place-in, place-on, place-here}
-use Rattle.sort.proofs.part.place_of.Statement.{statement}
-use Rattle.sort.proofs.part.place_of.Tie as tie
+use Rattle.cycles.proofs.Parts.{place-in, place-on, place-here}
+use Rattle.cycles.proofs.part.place_of.Statement.{statement}
+use Rattle.cycles.proofs.part.place_of.Tie as tie
 
 record NotPast (buffer : List ℕ) (at t k : ℕ) : Type 0 where
   pub begun : at ≤ k

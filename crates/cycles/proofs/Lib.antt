@@ -1,0 +1,3 @@
+pub mod Parts
+pub mod WalkLoop
+pub mod CycleWritten

@@ -1,0 +1,2 @@
+pub mod WaitsFor
+pub mod Promises
