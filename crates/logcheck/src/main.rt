@@ -10,8 +10,8 @@ use format::record::MOST_BYTES;
 use libc::STDERR_FILENO;
 use libc::STDIN_FILENO;
 use libc::STDOUT_FILENO;
+use printing::put::TEXT;
 use text::log_text;
-use text::put::TEXT;
 
 const ROOM: usize = MOST_BYTES + 1;
 

@@ -13,10 +13,12 @@ use Rattle.answers.specs.Verdict.{most-answer, record-size, entry, verdict-chec
 use Rattle.answers.proofs.VerdictRows.{check-passes, enough-room, answer-refused, answer-given}
 use Rattle.answers.proofs.AnswerRecords.{records-long, ordered-fits}
 use Rattle.verdict.proofs.Written.{in-front}
-use Rattle.text.specs.Text.{text-room, serial-word, cycle-word, first-line, refusal-line, record-lines, printed-answer, printed-with, printed}
-use Rattle.text.specs.Kept.{Put, Recorded, Lent}
+use Rattle.printing.specs.Lines.{text-room, first-line, refusal-line, record-lines}
+use Rattle.printing.specs.Kept.{Put}
+use Rattle.printing.proofs.Lines.{first-short, lines-short, lines-same}
+use Rattle.text.specs.Text.{serial-word, cycle-word, printed-answer, printed-with, printed}
+use Rattle.text.specs.Kept.{Recorded, Lent}
 use Rattle.text.specs.Promises.{Prints}
-use Rattle.text.proofs.Lines.{first-short, lines-short, lines-same}
 
 -- the text of each answer
 pub line-text : (n : ℕ) (answer : List ℕ) → printed-answer (gives (line n)) answer ≡ first-line serial-word n ++ record-lines false answer n

@@ -7,7 +7,8 @@ use mathlib.Core.List.{List, _++_}
 use lib.ListN.{length, take, drop}
 use lib.Seq.{sets-eq, take-at}
 use Rattle.verdict.specs.declared.answer.Verdict.{Verdict}
-use Rattle.text.specs.Text.{text-room, printed}
+use Rattle.printing.specs.Lines.{text-room}
+use Rattle.text.specs.Text.{printed}
 use Rattle.text.specs.Promises.{Prints, PrintsAnswer, PrintsJudged, PrintsLog}
 
 -- two that print the same bytes to the same text have the same length, and leave the same

@@ -2,10 +2,10 @@
 use Prim.Native.Nat.{ℕ}
 use mathlib.Core.Path.{_≡_, ap, ap₂}
 use mathlib.Core.List.{List, [], _∷_}
-use Rattle.text.specs.Text.{digit, decimal-within, decimal, space, newline, serial-word, cycle-word, refused-word, first-line}
-use Rattle.text.specs.Text.{refusal-line, record-line, record-lines, printed-answer, printed-with, printed}
 use Rattle.answers.specs.Marked.{MarkedLog, P2, marked-given}
 use Rattle.answers.proofs.Marked.{marked-hold}
+use Rattle.printing.specs.Lines.{digit, decimal-within, decimal, space, newline, refused-word, first-line, refusal-line, record-line, record-lines}
+use Rattle.text.specs.Text.{serial-word, cycle-word, printed-answer, printed-with, printed}
 
 -- "cycle 2", "1 1", "2 3", with the newline behind each
 abbrev P2-lines : List ℕ

@@ -8,7 +8,8 @@ use lib.Seq.{sets}
 use Rattle.verdict.specs.Numbers.{verdict-says}
 use Rattle.answers.specs.Verdict.{LeavesRecords}
 use Rattle.verdict.specs.declared.answer.Verdict.{Verdict}
-use Rattle.text.specs.Text.{text-room, printed-answer, printed-with, printed}
+use Rattle.printing.specs.Lines.{text-room}
+use Rattle.text.specs.Text.{printed-answer, printed-with, printed}
 
 -- these bytes stand in the front of a text that was lent, n is how many they are, there is room for them, and all other bytes keep their content
 pub record Prints (bytes old : List ℕ) (n : ℕ) (new : List ℕ) : Type 0 where

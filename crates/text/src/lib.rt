@@ -2,14 +2,10 @@
 ghost use Rattle.verdict.specs.Numbers.{verdict-says};
 ghost use Rattle.text.specs.Kept.{Lent};
 ghost use Rattle.text.specs.Promises.{PrintsAnswer, PrintsJudged, PrintsLog};
-
-mod line;
-pub mod put;
-
-use crate::line::put_first;
-use crate::line::put_records;
-use crate::line::put_refusal;
-use crate::put::TEXT;
+use printing::line::put_first;
+use printing::line::put_records;
+use printing::line::put_refusal;
+use printing::put::TEXT;
 use verdict::answer::MOST_ANSWER;
 use verdict::answer::Verdict;
 use verdict::verdict;

@@ -9,8 +9,8 @@ ghost use lib.ListN.{length};
 ghost use Rattle.trial.specs.Stack.{header-size};
 use libc::STDIN_FILENO;
 use libc::STDOUT_FILENO;
+use printing::put::TEXT;
 use text::judged_text;
-use text::put::TEXT;
 
 // The bytes before a log: the two lengths.
 const HEADER_SIZE: usize = 4;

@@ -4,8 +4,9 @@ use mathlib.Core.Path.{sym}
 use lib.ListN.{length, replicate, length-replicate}
 use lib.Seq.{length-take-le}
 use denote.Ref.{now}
-use Rattle.text.specs.Text.{printed, text-room}
-use Rattle.text.proofs.Puts.{still-inside}
+use Rattle.printing.specs.Lines.{text-room}
+use Rattle.printing.proofs.Puts.{still-inside}
+use Rattle.text.specs.Text.{printed}
 use borrow.Author.Needs.{needs}
 use Rattle.logcheck.proofs.print_answer.Statement.{statement}
 use Rattle.logcheck.proofs.print_answer.Tie as tie

@@ -9,10 +9,11 @@ use denote.Ref.{now}
 use Rattle.refusals.specs.Numbers.{number-of, place-of}
 use Rattle.verdict.specs.Numbers.{verdict-says}
 use Rattle.verdict.specs.declared.answer.Verdict.{Verdict}
-use Rattle.text.specs.Text.{serial-word, cycle-word, first-line, refusal-line, record-lines, printed-answer, text-room}
+use Rattle.printing.specs.Lines.{first-line, refusal-line, record-lines, text-room}
+use Rattle.printing.proofs.Lines.{refusal-short}
+use Rattle.printing.proofs.Puts.{put-then}
+use Rattle.text.specs.Text.{serial-word, cycle-word, printed-answer}
 use Rattle.text.specs.Kept.{Lent, Recorded}
-use Rattle.text.proofs.Lines.{refusal-short}
-use Rattle.text.proofs.Puts.{put-then}
 use Rattle.text.proofs.Answers.{line-text, cycle-text, refusal-text, whole, text-short}
 use borrow.Author.Needs.{needs}
 use Rattle.text.proofs.answer_text.Statement.{statement}

@@ -8,7 +8,7 @@ use mathlib.Core.List.{List, [], _∷_, _++_}
 use lib.ListN.{length, length-append}
 use borrow.Author.Tests.{lt-ltb, le-ltb}
 use Rattle.io.specs.Digits.{glyph, digits, Fewest}
-use Rattle.text.specs.Text.{digit, decimal-within, decimal}
+use Rattle.printing.specs.Lines.{digit, decimal-within, decimal}
 
 -- a number of one digit, and one of more
 one-digit : (most n : ℕ) → n < 10 → decimal-within (suc most) n ≡ digit (n % 10) ∷ []

@@ -1,13 +1,13 @@
--- `text::put::put_decimal` meets its contract: what `io::decimal` writes is the number in decimal.
+-- `printing::put::put_decimal` meets its contract: what `io::decimal` writes is the number in decimal.
 use native.Mathlib.Omega.{arith}
 use mathlib.Core.Path.{_≡_, _∙_, ap}
 use lib.ListN.{length, take}
-use Rattle.text.specs.Text.{decimal}
-use Rattle.text.proofs.Decimals.{spelled}
-use Rattle.text.proofs.Puts.{put-same}
+use Rattle.printing.specs.Lines.{decimal}
+use Rattle.printing.proofs.Decimals.{spelled}
+use Rattle.printing.proofs.Puts.{put-same}
 use borrow.Author.Needs.{needs}
-use Rattle.text.proofs.put.put_decimal.Statement.{statement}
-use Rattle.text.proofs.put.put_decimal.Tie as tie
+use Rattle.printing.proofs.put.put_decimal.Statement.{statement}
+use Rattle.printing.proofs.put.put_decimal.Tie as tie
 
 decimal-requires : tie.Need-decimal-requires
 decimal-requires c κs = search needs

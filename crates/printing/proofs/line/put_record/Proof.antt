@@ -1,4 +1,4 @@
--- `text::line::put_record` meets its contract: with the reason and without it.
+-- `printing::line::put_record` meets its contract: with the reason and without it.
 use native.Mathlib.Omega.{arith}
 use Prim.Native.Nat.{ℕ}
 use mathlib.Core.Path.{sym, ap}
@@ -6,14 +6,14 @@ use mathlib.Core.Bool.{Bool}
 use mathlib.Core.List.{List}
 use mathlib.Core.Logic.{⊎-elim}
 use denote.Ref.{now}
-use Rattle.text.specs.Text.{space, newline}
-use Rattle.text.specs.Kept.{Put}
-use Rattle.text.proofs.Decimals.{byte-short}
-use Rattle.text.proofs.Lines.{unended, line-ended, unended-short}
-use Rattle.text.proofs.Puts.{put-then, put-same, put-is}
+use Rattle.printing.specs.Lines.{space, newline}
+use Rattle.printing.specs.Kept.{Put}
+use Rattle.printing.proofs.Decimals.{byte-short}
+use Rattle.printing.proofs.Lines.{unended, line-ended, unended-short}
+use Rattle.printing.proofs.Puts.{put-then, put-same, put-is}
 use borrow.Author.Needs.{needs}
-use Rattle.text.proofs.line.put_record.Statement.{statement}
-use Rattle.text.proofs.line.put_record.Tie as tie
+use Rattle.printing.proofs.line.put_record.Statement.{statement}
+use Rattle.printing.proofs.line.put_record.Tie as tie
 
 put-decimal-requires : tie.Need-put-decimal-requires
 put-decimal-requires c κs = let s = c .before in omega (arith, s .pre, byte-short (s .args .t) (search needs))

@@ -1,11 +1,11 @@
--- `text::line::put_refusal` meets its contract: the word, the two numbers, the spaces and the newline, one behind the other.
+-- `printing::line::put_refusal` meets its contract: the word, the two numbers, the spaces and the newline, one behind the other.
 use native.Mathlib.Omega.{arith}
-use Rattle.text.specs.Text.{space, newline, refused-word, refusal-line}
-use Rattle.text.proofs.Decimals.{number-short}
-use Rattle.text.proofs.Puts.{put-then}
+use Rattle.printing.specs.Lines.{space, newline, refused-word, refusal-line}
+use Rattle.printing.proofs.Decimals.{number-short}
+use Rattle.printing.proofs.Puts.{put-then}
 use borrow.Author.Needs.{needs}
-use Rattle.text.proofs.line.put_refusal.Statement.{statement}
-use Rattle.text.proofs.line.put_refusal.Tie as tie
+use Rattle.printing.proofs.line.put_refusal.Statement.{statement}
+use Rattle.printing.proofs.line.put_refusal.Tie as tie
 
 slice-aggregate-put-bytes : tie.Need-slice-aggregate-put-bytes
 slice-aggregate-put-bytes c = search needs

@@ -7,8 +7,8 @@ use mathlib.Core.Bool.{Bool, true, false}
 use mathlib.Core.List.{List, [], _++_}
 use lib.ListN.{length, length-append}
 use Rattle.answers.specs.Verdict.{record-size, entry}
-use Rattle.text.specs.Text.{space, newline, refused-word, decimal, first-line, refusal-line, record-line, record-lines, first-room, record-room}
-use Rattle.text.proofs.Decimals.{number-short, byte-short}
+use Rattle.printing.specs.Lines.{space, newline, refused-word, decimal, first-line, refusal-line, record-line, record-lines, first-room, record-room}
+use Rattle.printing.proofs.Decimals.{number-short, byte-short}
 
 -- the first line fits its room
 pub first-short : (word : List ℕ) (n : ℕ) → length word ≤ 8 → n < 2 ^ 64 → length (first-line word n) ≤ first-room

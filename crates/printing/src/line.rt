@@ -3,15 +3,15 @@ ghost use Prim.Native.Nat.{_+_, _*_, _≤_};
 ghost use lib.ListN.{length};
 ghost use Rattle.rules.specs.Record.{transactions};
 ghost use Rattle.answers.specs.Verdict.{record-size};
-ghost use Rattle.text.specs.Text.{text-room, first-room, record-room, first-line, refusal-line, record-line, record-lines};
-ghost use Rattle.text.specs.Kept.{Put};
+ghost use Rattle.printing.specs.Lines.{text-room, first-room, record-room, first-line, refusal-line, record-line, record-lines};
+ghost use Rattle.printing.specs.Kept.{Put};
 use crate::put::TEXT;
 use crate::put::put_bytes;
 use crate::put::put_decimal;
 use verdict::answer::RECORD_SIZE;
 
 // The line that a line or a cycle begins with: a word and how many members there are.
-pub(crate) fn put_first(word: &[u8], n: usize, text: &mut [u8; TEXT]) -> usize
+pub fn put_first(word: &[u8], n: usize, text: &mut [u8; TEXT]) -> usize
     requires { ⌜ length (now word) ≤ 8 ⌝ }
     ensures { λ r. ⌜ Put (now (text .entry)) 0 (first-line (now (word .entry)) n) (now (text .exit)) r ⌝ }
     ensures { λ r. ⌜ r ≤ first-room ⌝ }
@@ -23,7 +23,7 @@ pub(crate) fn put_first(word: &[u8], n: usize, text: &mut [u8; TEXT]) -> usize
 }
 
 // The line of a refusal.
-pub(crate) fn put_refusal(number: u64, place: usize, text: &mut [u8; TEXT]) -> usize
+pub fn put_refusal(number: u64, place: usize, text: &mut [u8; TEXT]) -> usize
     ensures { λ r. ⌜ Put (now (text .entry)) 0 (refusal-line number place) (now (text .exit)) r ⌝ }
 {
     let at = put_bytes(b"refused ", text, 0);
@@ -47,7 +47,7 @@ fn put_record(t: u8, reason: u8, reasons: bool, text: &mut [u8; TEXT], at: usize
 }
 
 // The lines of the first n answer records.
-pub(crate) fn put_records(
+pub fn put_records(
     answer: &[u8],
     n: usize,
     reasons: bool,

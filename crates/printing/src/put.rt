@@ -1,8 +1,8 @@
 // Bytes and numbers put into a text from a place on. Each function answers the place behind what it has put, from which the next goes on.
 ghost use Prim.Native.Nat.{_+_, _≤_};
 ghost use lib.ListN.{length};
-ghost use Rattle.text.specs.Text.{text-room, decimal};
-ghost use Rattle.text.specs.Kept.{Put};
+ghost use Rattle.printing.specs.Lines.{text-room, decimal};
+ghost use Rattle.printing.specs.Kept.{Put};
 use format::record::TRANSACTIONS;
 
 // The longest first line: a refusal's word and its space, two numbers, the space between them and the newline.

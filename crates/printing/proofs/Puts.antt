@@ -7,7 +7,7 @@ use mathlib.Core.List.{List, [], _∷_, _++_}
 use lib.ListN.{length, take, getD, set, length-append}
 use lib.Seq.{sets, length-sets, take-suc, length-take-le, take-length}
 use Rattle.lines.proofs.Lists.{sets-append}
-use Rattle.text.specs.Kept.{Put}
+use Rattle.printing.specs.Kept.{Put}
 
 -- one more of the bytes is written
 pub byte-more : (bytes old : List ℕ) (at k : ℕ) → k < length bytes

@@ -1,15 +1,15 @@
--- `text::line::put_records` meets its contract. The invariant: the lines of the first k records have been put.
+-- `printing::line::put_records` meets its contract. The invariant: the lines of the first k records have been put.
 use native.Mathlib.Omega.{arith}
 use Prim.Native.Nat.{ℕ, _+_, _*_, _-_, _<_, _≤_}
 use mathlib.Core.Path.{_≡_, subst}
 use lib.ListN.{length}
 use denote.Ref.{now}
-use Rattle.text.specs.Text.{record-lines, text-room}
-use Rattle.text.specs.Kept.{Put}
-use Rattle.text.proofs.Lines.{lines-none, lines-more, lines-short}
-use Rattle.text.proofs.Puts.{put-none, put-then, put-same}
-use Rattle.text.proofs.line.put_records.Statement.{statement}
-use Rattle.text.proofs.line.put_records.Tie as tie
+use Rattle.printing.specs.Lines.{record-lines, text-room}
+use Rattle.printing.specs.Kept.{Put}
+use Rattle.printing.proofs.Lines.{lines-none, lines-more, lines-short}
+use Rattle.printing.proofs.Puts.{put-none, put-then, put-same}
+use Rattle.printing.proofs.line.put_records.Statement.{statement}
+use Rattle.printing.proofs.line.put_records.Tie as tie
 
 abbrev Inv-loop : tie.InvT-loop
 Inv-loop answer n reasons text₀ start at₀ k₀ text at k = (k ≤ n) × Put text₀ start (record-lines reasons answer k) text at

@@ -1,13 +1,13 @@
--- `text::line::put_first` meets its contract: the word, a space, the number and the newline, one behind the other.
+-- `printing::line::put_first` meets its contract: the word, a space, the number and the newline, one behind the other.
 use native.Mathlib.Omega.{arith}
 use denote.Ref.{now}
-use Rattle.text.specs.Text.{space, newline, first-line}
-use Rattle.text.proofs.Decimals.{number-short}
-use Rattle.text.proofs.Lines.{first-short}
-use Rattle.text.proofs.Puts.{put-then}
+use Rattle.printing.specs.Lines.{space, newline, first-line}
+use Rattle.printing.proofs.Decimals.{number-short}
+use Rattle.printing.proofs.Lines.{first-short}
+use Rattle.printing.proofs.Puts.{put-then}
 use borrow.Author.Needs.{needs}
-use Rattle.text.proofs.line.put_first.Statement.{statement}
-use Rattle.text.proofs.line.put_first.Tie as tie
+use Rattle.printing.proofs.line.put_first.Statement.{statement}
+use Rattle.printing.proofs.line.put_first.Tie as tie
 
 put-bytes-requires : tie.Need-put-bytes-requires
 put-bytes-requires c κs = search needs

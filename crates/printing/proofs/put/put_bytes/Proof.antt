@@ -1,4 +1,4 @@
--- `text::put::put_bytes` meets its contract. The invariant: the first k bytes have been put.
+-- `printing::put::put_bytes` meets its contract. The invariant: the first k bytes have been put.
 use native.Mathlib.Omega.{arith}
 use mathlib.Core.Path.{_≡_, _∙_, ap, refl}
 use mathlib.Core.List.{List}
@@ -6,9 +6,9 @@ use Prim.Native.Nat.{ℕ, _+_, _-_, _≤_}
 use lib.ListN.{length, take, set, getD}
 use lib.Seq.{sets}
 use denote.Ref.{now}
-use Rattle.text.proofs.Puts.{byte-more, all-put}
-use Rattle.text.proofs.put.put_bytes.Statement.{statement}
-use Rattle.text.proofs.put.put_bytes.Tie as tie
+use Rattle.printing.proofs.Puts.{byte-more, all-put}
+use Rattle.printing.proofs.put.put_bytes.Statement.{statement}
+use Rattle.printing.proofs.put.put_bytes.Tie as tie
 
 abbrev Inv-loop : tie.InvT-loop
 Inv-loop bytes text₀ at k₀ k-end text k = (k ≤ length bytes) × (text ≡ sets text₀ at (take k bytes))
