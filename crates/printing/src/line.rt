@@ -8,7 +8,7 @@ ghost use Rattle.printing.specs.Kept.{Put};
 use crate::put::TEXT;
 use crate::put::put_bytes;
 use crate::put::put_decimal;
-use verdict::answer::RECORD_SIZE;
+use writing::RECORD_SIZE;
 
 // The line that a line or a cycle begins with: a word and how many members there are.
 pub fn put_first(word: &[u8], n: usize, text: &mut [u8; TEXT]) -> usize

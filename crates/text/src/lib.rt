@@ -6,9 +6,9 @@ use printing::line::put_first;
 use printing::line::put_records;
 use printing::line::put_refusal;
 use printing::put::TEXT;
-use verdict::answer::MOST_ANSWER;
 use verdict::answer::Verdict;
 use verdict::verdict;
+use writing::MOST_ANSWER;
 
 // The text of a verdict whose answer records stand in the front of `answer`, and how many bytes it has.
 pub fn answer_text(verdict: Verdict, answer: &[u8], text: &mut [u8; TEXT]) -> usize

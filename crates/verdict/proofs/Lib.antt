@@ -1,4 +1,2 @@
-pub mod Pairs
-pub mod Along
 pub mod Written
 pub mod Determined

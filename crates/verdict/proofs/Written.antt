@@ -16,7 +16,7 @@ use Rattle.rules.specs.Passes.{Passes}
 use Rattle.rules.proofs.Graphs.{members-hold}
 use Rattle.lines.specs.Rule.{LineOrCycle, line, cycle, members-of, sorted}
 use Rattle.answers.specs.Verdict.{entry, pairs, round-to, line-or-cycle, line-records, cycle-records, answer-records}
-use Rattle.verdict.specs.Kept.{Low, Along}
+use Rattle.writing.specs.Kept.{Low, Along}
 use Rattle.answers.proofs.AnswerRecords.{pairs-same, round-low, line-records-are, cycle-records-are, ordered-fits, ordered-low}
 
 -- a log that passes

@@ -12,10 +12,7 @@ ghost use Rattle.verdict.specs.Promises.{JudgesLog};
 
 pub mod answer;
 
-use crate::answer::MOST_ANSWER;
 use crate::answer::Verdict;
-use crate::answer::reasons_along;
-use crate::answer::write_records;
 pub use edges::graph::edge_between;
 use edges::graph::edges_by_reason;
 use format::record::TRANSACTIONS;
@@ -27,6 +24,9 @@ use refusals::refusal::Refusal;
 use sort::Sorted;
 use sort::sort;
 use tables::reasons::joined;
+use writing::MOST_ANSWER;
+use writing::reasons_along;
+use writing::write_records;
 
 // Numbers 1 to 9 for a log and an answer buffer of so many bytes.
 fn checked(log: &[u8], room: usize) -> Checked

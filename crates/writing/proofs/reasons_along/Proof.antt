@@ -1,4 +1,4 @@
--- `verdict::answer::reasons_along` meets its contract. The invariant: the reasons of the first k have been found.
+-- `writing::reasons_along` meets its contract. The invariant: the reasons of the first k have been found.
 use native.Mathlib.Omega.{arith}
 use mathlib.Core.Path.{_≡_, _∙_, ap, sym, subst}
 use mathlib.Core.List.{List}
@@ -8,13 +8,13 @@ use lib.ListN.{length-replicate}
 use denote.Ref.{now}
 use Rattle.tables.specs.ReasonTables.{lowest-in}
 use Rattle.answers.specs.Verdict.{entry, round-to}
-use Rattle.verdict.specs.Kept.{Along}
+use Rattle.writing.specs.Kept.{Along}
 use Rattle.answers.proofs.AnswerRecords.{round-next, round-back, round-low}
-use Rattle.verdict.proofs.Along.{along-more}
-use Rattle.verdict.proofs.answer.reasons_along.Statement.{statement}
-use Rattle.verdict.proofs.answer.reasons_along.Tie as tie
-use Rattle.verdict.proofs.answer.reasons_along.Reads as reads
-use Rattle.verdict.proofs.answer.reasons_along.Lts as lts
+use Rattle.writing.proofs.Along.{along-more}
+use Rattle.writing.proofs.reasons_along.Statement.{statement}
+use Rattle.writing.proofs.reasons_along.Tie as tie
+use Rattle.writing.proofs.reasons_along.Reads as reads
+use Rattle.writing.proofs.reasons_along.Lts as lts
 use Rattle.tables.proofs.reasons.lowest_reason.Reads as lowest-reason-reads
 
 abbrev Inv-loop : tie.InvT-loop

@@ -1,4 +1,4 @@
--- What is kept while a cycle's reasons are found. Only the contracts of the verdict's own steps cite this file.
+-- What is kept while a cycle's reasons are found. No promise of an entry point cites this file.
 use Prim.Native.Nat.{ℕ, _<_}
 use mathlib.Core.Path.{_≡_}
 use mathlib.Core.List.{List}

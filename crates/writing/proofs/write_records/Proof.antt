@@ -1,4 +1,4 @@
--- `verdict::answer::write_records` meets its contract. The invariant: the first k records have been written.
+-- `writing::write_records` meets its contract. The invariant: the first k records have been written.
 use native.Mathlib.Omega.{arith}
 use mathlib.Core.Path.{_≡_, _∙_, ap}
 use mathlib.Core.List.{List}
@@ -7,9 +7,9 @@ use lib.ListN.{length, set, length-set}
 use lib.Seq.{sets}
 use denote.Ref.{now}
 use Rattle.answers.specs.Verdict.{entry, pairs}
-use Rattle.verdict.proofs.Pairs.{pairs-none, pairs-more, pairs-room}
-use Rattle.verdict.proofs.answer.write_records.Statement.{statement}
-use Rattle.verdict.proofs.answer.write_records.Tie as tie
+use Rattle.writing.proofs.Pairs.{pairs-none, pairs-more, pairs-room}
+use Rattle.writing.proofs.write_records.Statement.{statement}
+use Rattle.writing.proofs.write_records.Tie as tie
 
 abbrev Inv-loop : tie.InvT-loop
 Inv-loop members seconds n answer₀ k₀ answer k = (k ≤ n) × (answer ≡ sets answer₀ 0 (pairs k (entry members) (entry seconds)))

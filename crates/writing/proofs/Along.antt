@@ -8,7 +8,7 @@ use lib.ListN.{set, length-set}
 use lib.Seq.{getD-set-same, getD-set-other}
 use Rattle.rules.specs.Record.{transactions}
 use Rattle.answers.specs.Verdict.{entry, round-to}
-use Rattle.verdict.specs.Kept.{Along}
+use Rattle.writing.specs.Kept.{Along}
 
 -- one more reason is kept
 pub along-more : (lowest : ℕ → ℕ → ℕ) (xs reasons : List ℕ) (n k value : ℕ) → k < transactions → Along lowest xs n k reasons
