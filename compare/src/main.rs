@@ -40,8 +40,6 @@ mod verdicts;
 
 use buffers::Lender;
 use graph::Graph;
-use std::thread;
-
 use second::check::check;
 use second::maker::{family_name, make};
 use second::named::{named, Named};
@@ -125,36 +123,12 @@ fn compare_made(tally: &mut Tally) {
     }
 }
 
-fn compare_logs() -> Tally {
+fn main() {
     let mut tally = Tally::default();
     compare_named(&mut tally);
     compare_small(&mut tally);
     compare_made(&mut tally);
-    tally
-}
-
-fn compare_tables() -> Tally {
-    let mut tally = Tally::default();
     sorts::compare(SEED, &mut tally);
-    tally
-}
-
-/// The tables need nothing of the logs, and a call keeps nothing, so that the two are compared at the same time.
-fn compare_all() -> Tally {
-    thread::scope(|scope| {
-        let beside = scope.spawn(compare_tables);
-        let logs = compare_logs();
-        let tables = beside.join().expect("the tables were compared to the end");
-        Tally {
-            tables: tables.tables,
-            sorts: tables.sorts,
-            ..logs
-        }
-    })
-}
-
-fn main() {
-    let tally = compare_all();
     tally.print();
     let untried = tally.untried();
     for what in &untried {
