@@ -1,4 +1,4 @@
-/* A call of the library from C: the verdict on history H1, w0[xA] w0[xB] w0[yC] c0 r1[yC] w1[xA] c1 r2[xB] w2[yC] c2, and one question
+/* Calls of the library from C: the verdict on history H1, w0[xA] w0[xB] w0[yC] c0 r1[yC] w1[xA] c1 r2[xB] w2[yC] c2, and two questions
  * about it. This builds and runs it, on any machine:
  *
  *     scripts/example.sh c
@@ -13,6 +13,7 @@
  *   > 1 1
  *   > 2 3
  *   > the edge from 2 to 1 has reason 3
+ *   > record 7 reads what 0 wrote in record 1
  */
 #include <inttypes.h>
 #include <stdio.h>
@@ -39,5 +40,8 @@ int main(void) {
     }
     /* 2 read the x that 0 wrote, so it comes before 1, which wrote x later. */
     printf("the edge from 2 to 1 has reason %" PRIu64 "\n", fruscalenta_edge_between(h1, sizeof h1, 2, 1).value);
+    /* That read is record 7, r2[xB], and the write is record 1, w0[xB]. */
+    struct fruscalenta_source source = fruscalenta_source_of_record(h1, sizeof h1, 7);
+    printf("record 7 reads what %" PRIu64 " wrote in record %" PRIu64 "\n", source.transaction, source.record);
     return 0;
 }

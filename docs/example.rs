@@ -1,4 +1,4 @@
-//! A call of the library from Rust: the verdict on history H1, and one question about it. H1 is
+//! Calls of the library from Rust: the verdict on history H1, and two questions about it. H1 is
 //! w0[xA] w0[xB] w0[yC] c0 r1[yC] w1[xA] c1 r2[xB] w2[yC] c2. This builds and runs it, on any machine:
 //!
 //!     scripts/example.sh rs
@@ -13,6 +13,7 @@
 //!   > 1 1
 //!   > 2 3
 //!   > the edge from 2 to 1 has reason 3
+//!   > record 7 reads what 0 wrote in record 1
 
 #[repr(C)]
 struct Judged { number: u64, place: u64, cycle: u64, length: u64 }
@@ -20,10 +21,14 @@ struct Judged { number: u64, place: u64, cycle: u64, length: u64 }
 #[repr(C)]
 struct Answer { number: u64, place: u64, value: u64 }
 
+#[repr(C)]
+struct Source { number: u64, place: u64, transaction: u64, record: u64 }
+
 // As in include/fruscalenta.h. A slice is a good pointer with its length, which is all that the library asks.
 extern "C" {
     fn fruscalenta_verdict(log: *const u8, len: usize, answer: *mut u8, room: usize) -> Judged;
     fn fruscalenta_edge_between(log: *const u8, len: usize, i: usize, j: usize) -> Answer;
+    fn fruscalenta_source_of_record(log: *const u8, len: usize, k: usize) -> Source;
 }
 
 fn main() {
@@ -48,5 +53,11 @@ fn main() {
     match edge.number {
         0 => println!("the edge from 2 to 1 has reason {}", edge.value),
         number => println!("refused {number} {}", edge.place),
+    }
+    // That read is record 7, r2[xB], and the write is record 1, w0[xB].
+    let source = unsafe { fruscalenta_source_of_record(h1.as_ptr(), h1.len(), 7) };
+    match source.number {
+        0 => println!("record 7 reads what {} wrote in record {}", source.transaction, source.record),
+        number => println!("refused {number} {}", source.place),
     }
 }

@@ -14,6 +14,7 @@
 #include "known.h"
 
 #define COUNT(array) (sizeof(array) / sizeof *(array))
+#define TRANSACTIONS 64 /* one past the highest transaction */
 #define TWO_TO_32 ((size_t)1 << 32)
 #define SOME_MORE 64 /* bytes in front of what is lent, and behind it */
 
@@ -101,8 +102,11 @@ static void expect(struct fruscalenta_answer got, const char *what, uint64_t num
            got.value);
 }
 
-static void ask_source(size_t k, uint64_t number, uint64_t place, uint64_t value) {
-    expect(fruscalenta_source_of_record(log_bytes, log_length, k), "a source", number, place, value);
+static void ask_source(size_t k, uint64_t number, uint64_t place, uint64_t transaction, uint64_t record) {
+    struct fruscalenta_source got = fruscalenta_source_of_record(log_bytes, log_length, k);
+    EXPECT(got.number == number && got.place == place && got.transaction == transaction && got.record == record,
+           "the source of record %zu is %" PRIu64 ", %" PRIu64 ", %" PRIu64 ", %" PRIu64, k, got.number, got.place, got.transaction,
+           got.record);
 }
 
 static void ask_edge(size_t i, size_t j, uint64_t number, uint64_t place, uint64_t value) {
@@ -112,7 +116,7 @@ static void ask_edge(size_t i, size_t j, uint64_t number, uint64_t place, uint64
 /* Number 3 comes behind 1 and 2, and before all others. Number 10 comes last: a refused log is refused whatever is asked. */
 static void check_log(const struct known_log *known) {
     static const struct known_log too_short = {.number = 3};
-    static const size_t far[] = {FRUSCALENTA_NONE, TWO_TO_32, SIZE_MAX}; /* 2^32 is 0 in its lowest 32 bits */
+    static const size_t far[] = {TRANSACTIONS, FRUSCALENTA_NONE, TWO_TO_32, SIZE_MAX}; /* 2^32 is 0 in its lowest 32 bits */
     int by_length = known->number == 1 || known->number == 2;
     take_log(known);
     ask_verdict(FRUSCALENTA_ROOM, known);
@@ -124,27 +128,46 @@ static void check_log(const struct known_log *known) {
         uint64_t number = known->number ? known->number : 10;
         ask_edge(far[at], 0, number, known->place, 0);
         ask_edge(0, far[at], number, known->place, 0);
-        if (far[at] > log_length / 4)
-            ask_source(far[at], number, known->place, 0);
+        if (far[at] >= log_length / 4) /* a long log has records with the lower of these numbers */
+            ask_source(far[at], number, known->place, 0, 0);
     }
 }
 
-static void check_questions(void) {
-    for (size_t at = 0; at < COUNT(known_sources); at++) {
-        take_log(log_named(known_sources[at].log));
-        for (size_t k = 0; k < log_length / 4; k++) {
-            int source = known_sources[at].sources[k];
-            ask_source(k, 0, 0, source < 0 ? FRUSCALENTA_NONE : (uint64_t)source);
-        }
-        ask_source(log_length / 4, 10, 0, 0);
+/* The source that record k of a log is known to have; null for none. */
+static const struct known_source *source_of(const char *log, size_t k) {
+    for (size_t at = 0; at < COUNT(known_sources); at++)
+        if (strcmp(known_sources[at].log, log) == 0 && known_sources[at].k == k)
+            return &known_sources[at];
+    return NULL;
+}
+
+/* Every record of a log that passes, and the first number past its end. */
+static void check_sources(const struct known_log *known) {
+    take_log(known);
+    for (size_t k = 0; k < log_length / 4; k++) {
+        const struct known_source *source = source_of(known->name, k);
+        if (source)
+            ask_source(k, 0, 0, source->transaction, source->record);
+        else
+            ask_source(k, 0, 0, FRUSCALENTA_NONE, FRUSCALENTA_NONE);
     }
+    ask_source(log_length / 4, 10, 0, 0, 0);
+}
+
+static void check_questions(void) {
+    for (size_t at = 0; at < COUNT(known_logs); at++)
+        if (known_logs[at].number == 0)
+            check_sources(&known_logs[at]);
     for (size_t at = 0; at < COUNT(known_edges); at++) {
         take_log(log_named(known_edges[at].log));
         ask_edge(known_edges[at].i, known_edges[at].j, 0, 0, known_edges[at].reason);
     }
     take_log(log_named("transaction 63"));
-    ask_edge(FRUSCALENTA_NONE - 1, 0, 0, 0, 0); /* one below "none" is a transaction, */
-    ask_edge(FRUSCALENTA_NONE, 0, 10, 0, 0);    /* and "none" is not */
+    ask_edge(TRANSACTIONS - 1, 0, 0, 0, 0); /* 63 is a transaction, */
+    ask_edge(TRANSACTIONS, 0, 10, 0, 0);    /* and 64 is not */
+    take_log(log_named("4,096 records"));
+    ask_source(FRUSCALENTA_NONE - 1, 0, 0, FRUSCALENTA_NONE, FRUSCALENTA_NONE); /* one below "none" is a record, here the commit, */
+    ask_source(FRUSCALENTA_NONE, 10, 0, 0, 0);                                  /* and "none" is not */
 }
 
 static void check_sort(const struct known_sort *known) {
@@ -168,7 +191,7 @@ int main(void) {
  * that what the header lacks is not found here. */
 struct fruscalenta_judged fruscalenta_verdict(const uint8_t *log, size_t len, uint8_t *answer, size_t room);
 struct fruscalenta_answer fruscalenta_check(const uint8_t *log, size_t len);
-struct fruscalenta_answer fruscalenta_source_of_record(const uint8_t *log, size_t len, size_t k);
+struct fruscalenta_source fruscalenta_source_of_record(const uint8_t *log, size_t len, size_t k);
 struct fruscalenta_answer fruscalenta_edge_between(const uint8_t *log, size_t len, size_t i, size_t j);
 struct fruscalenta_sorted fruscalenta_sort(const uint64_t table[64], uint64_t set, uint8_t members[64]);
 
@@ -187,6 +210,11 @@ FIELD(fruscalenta_answer, number, 0);
 FIELD(fruscalenta_answer, place, 1);
 FIELD(fruscalenta_answer, value, 2);
 FIELDS(fruscalenta_answer, 3);
+FIELD(fruscalenta_source, number, 0);
+FIELD(fruscalenta_source, place, 1);
+FIELD(fruscalenta_source, transaction, 2);
+FIELD(fruscalenta_source, record, 3);
+FIELDS(fruscalenta_source, 4);
 FIELD(fruscalenta_sorted, cycle, 0);
 FIELD(fruscalenta_sorted, length, 1);
 FIELDS(fruscalenta_sorted, 2);

@@ -60,21 +60,43 @@ static const struct known_log known_logs[] = {
     {"8 before 9", "w0[xA] w0[xB] c0 w1[xA] r1[xB]", REFUSED(8, 4)},
     {"9 for the lowest", "w5[xA] w4[xB] c4 w3[xC]", REFUSED(9, 3)},
 
-    /* The highest transaction is a source, beside the number for "none". 0 reads what 63 wrote: a conflict, so that 63 stands first. */
+    /* The highest transaction is a source. 0 reads what 63 wrote: a conflict, so that 63 stands first. */
     {"source 63", "w63[xA] c63 r0[xA] c0", SERIAL(2) = {63, 0, 0, 0}},
+
+    /* For the place of a source: 0 makes every write, so that the transaction is the same whichever write is named. 1 reads what 0 wrote: a
+     * conflict. The highest place of a source is 4,093, since behind it stand at least the read and the commit of the reader. */
+    {"a copy written twice", "w0[xA] r0[xA] w0[xA] r0[xA] c0 r1[xA] c1", SERIAL(2) = {0, 0, 1, 0}},
+    {"other copies written since", "w0[xA] w0[xB] w0[yA] c0 r1[xA] r1[xB] r1[yA] c1", SERIAL(2) = {0, 0, 1, 0}},
+    {"a source at place 4,093", "w0[xA] r0[xA] c0", .times = 4094, SERIAL(1) = {0, 0}},
 };
 
-/* The sources of all records of a log, by the rule: the transaction of the last earlier write on the same copy; -1 for none. */
-static const struct {
+/* The sources of all reads in the logs that pass, by the rule: the last earlier write on the same copy, with its transaction and its place.
+ * No other record of these logs has a source. */
+static const struct known_source {
     const char *log;
-    int sources[11];
+    size_t k;
+    uint64_t transaction, record;
 } known_sources[] = {
-    {"P2", {-1, -1, -1, -1, 0, -1, -1, 0, -1, -1}},
-    {"P5", {-1, 0, -1}},
-    {"P8", {-1, -1, -1, -1, -1, 1, 0, -1}},
-    {"P13", {-1, -1, 3, -1, -1, -1, -1, -1, -1, -1, -1}},
-    {"two sources", {-1, -1, 0, -1, 1, -1}},
-    {"source 63", {-1, -1, 63, -1}},
+    {"P2", 4, 0, 2},
+    {"P2", 7, 0, 1},
+    {"P3", 4, 0, 2},
+    {"P5", 1, 0, 0},
+    {"P8", 5, 1, 3},
+    {"P8", 6, 0, 1},
+    {"P12", 5, 0, 0},
+    {"P12", 6, 0, 3},
+    {"P13", 2, 3, 0},
+    {"P3 behind an older writer", 6, 0, 4},
+    {"two sources", 2, 0, 0},
+    {"two sources", 4, 1, 3},
+    {"source 63", 2, 63, 0},
+    {"a copy written twice", 1, 0, 0},
+    {"a copy written twice", 3, 0, 2},
+    {"a copy written twice", 5, 0, 2},
+    {"other copies written since", 4, 0, 0},
+    {"other copies written since", 5, 0, 1},
+    {"other copies written since", 6, 0, 2},
+    {"a source at place 4,093", 4094, 0, 4093},
 };
 
 /* Edges, by the three reasons: in cycles and lines, none, to itself, and with a transaction that is not in the log. */

@@ -42,14 +42,26 @@ struct fruscalenta_answer {
     uint64_t value;
 };
 
-/* The value that stands for "none": a write or a commit has no source. */
-#define FRUSCALENTA_NONE 64
-
 /* The check of a log: numbers 1, 2 and 4 to 9. The value is 0. */
 struct fruscalenta_answer fruscalenta_check(const uint8_t *log, size_t len);
 
-/* The source of record k: the transaction whose write it reads, or FRUSCALENTA_NONE. Numbers 1, 2, 4 to 9, then 10. */
-struct fruscalenta_answer fruscalenta_source_of_record(const uint8_t *log, size_t len, size_t k);
+/* A source in numbers. Where number is 0 nothing was refused, place is 0, transaction is the one whose write is read, and record is the
+ * place of that write record; where there is no source both are FRUSCALENTA_NONE. Else number and place are those of the table of refusals
+ * in docs/LOGS.md, and transaction and record are 0. Places of refusals and of write records are counted in records from 0. */
+struct fruscalenta_source {
+    uint64_t number;
+    uint64_t place;
+    uint64_t transaction;
+    uint64_t record;
+};
+
+/* The number that stands for "none", as a transaction and as a record: a write or a commit has no source. It is one past the highest place
+ * of a record, and so above every transaction too. */
+#define FRUSCALENTA_NONE 4096
+
+/* The source of record k: the transaction whose write it reads and the place of that write record, or FRUSCALENTA_NONE twice for a write or
+ * a commit. Numbers 1, 2, 4 to 9, then 10. */
+struct fruscalenta_source fruscalenta_source_of_record(const uint8_t *log, size_t len, size_t k);
 
 /* The edge from transaction i to transaction j: the lowest of its reasons 1 to 3; or 0 where there is none, where i equals j, or where
  * either is not in the log. Numbers 1, 2, 4 to 9, then 10. A question costs a reading of the whole log. */

@@ -5,8 +5,8 @@
 //! to 5 records over 2 transactions, 2 items and 2 sites; and 120,000 logs of the maker from a
 //! stated seed. The questions:
 //!
-//! - of each log the check, and the source of every record (of a long log, of some and of the last), of one past the end and of the
-//!   largest number;
+//! - of each log the check, and the source of every record, its transaction and its place (of a long log, of some records and of the
+//!   last), of one past the end and of the largest number;
 //! - of a log that passes the edge from each of its transactions to each (of more than 8, among 8 of them), to and from one that is not
 //!   in it, and to and from a number above 63; of every named one and of a share of the others all 64 × 64 edges;
 //! - of a share of the logs that do not pass three edges, each of which has to be refused as the check is;
@@ -32,6 +32,7 @@ mod share;
 mod sort_kinds;
 mod sort_tally;
 mod sorts;
+mod source_kinds;
 mod sources;
 mod stated;
 mod tally;

@@ -2,6 +2,7 @@
 
 use second::check::Refusal;
 use second::sort::Sorted;
+use second::source::Source;
 use second::tables::{Table, ROWS};
 use second::verdict::Answer as Verdict;
 
@@ -11,6 +12,15 @@ struct Answer {
     number: u64,
     place: u64,
     value: u64,
+}
+
+/// `struct fruscalenta_source`.
+#[repr(C)]
+struct CodedSource {
+    number: u64,
+    place: u64,
+    transaction: u64,
+    record: u64,
 }
 
 /// `struct fruscalenta_sorted`.
@@ -32,7 +42,7 @@ pub struct Judged {
 }
 
 /// `FRUSCALENTA_NONE`.
-const NONE: u64 = 64;
+const NONE: u64 = 4_096;
 
 /// No refusal of document 01's.
 const NO_ANSWER: Refusal = Refusal {
@@ -42,7 +52,7 @@ const NO_ANSWER: Refusal = Refusal {
 
 extern "C" {
     fn fruscalenta_check(log: *const u8, len: usize) -> Answer;
-    fn fruscalenta_source_of_record(log: *const u8, len: usize, k: usize) -> Answer;
+    fn fruscalenta_source_of_record(log: *const u8, len: usize, k: usize) -> CodedSource;
     fn fruscalenta_edge_between(log: *const u8, len: usize, i: usize, j: usize) -> Answer;
     fn fruscalenta_sort(table: *const u64, set: u64, members: *mut u8) -> Coded;
     fn fruscalenta_verdict(log: *const u8, len: usize, answer: *mut u8, room: usize) -> Judged;
@@ -74,9 +84,30 @@ fn value(answer: Answer) -> Result<u64, Refusal> {
     }
 }
 
-/// A value that the header keeps below 256: one beyond shows as the refusal that document 01 has not, and not as its lowest byte.
+/// A number that the header keeps below 256: one beyond shows as the refusal that document 01 has not, and not as its lowest byte.
 fn byte(value: u64) -> Result<u8, Refusal> {
     u8::try_from(value).map_err(|_| NO_ANSWER)
+}
+
+/// The source of an answer, or its refusal. Four numbers that the header rules out show as a refusal that document 01 has not, so
+/// that each of the four is compared.
+fn source(answer: CodedSource) -> Result<Option<Source>, Refusal> {
+    let CodedSource {
+        number,
+        place,
+        transaction,
+        record,
+    } = answer;
+    match (number, place, transaction, record) {
+        (0, 0, NONE, NONE) => Ok(None),
+        (0, 0, NONE, _) | (0, 0, _, NONE) => Err(NO_ANSWER),
+        (0, 0, _, _) => Ok(Some(Source {
+            transaction: byte(transaction)?,
+            place: record as usize,
+        })),
+        (1.., _, 0, 0) => Err(refusal(number, place)),
+        _ => Err(NO_ANSWER),
+    }
 }
 
 /// The proved check.
@@ -89,12 +120,9 @@ pub fn check(log: &[u8]) -> Result<(), Refusal> {
 }
 
 /// The proved answer to "source of record k".
-pub fn source_of_record(log: &[u8], k: usize) -> Result<Option<u8>, Refusal> {
+pub fn source_of_record(log: &[u8], k: usize) -> Result<Option<Source>, Refusal> {
     // SAFETY: as above.
-    match value(unsafe { fruscalenta_source_of_record(log.as_ptr(), log.len(), k) })? {
-        NONE => Ok(None),
-        transaction => byte(transaction).map(Some),
-    }
+    source(unsafe { fruscalenta_source_of_record(log.as_ptr(), log.len(), k) })
 }
 
 /// The proved answer to "edge from i to j".

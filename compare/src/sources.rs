@@ -1,16 +1,17 @@
 //! The question "source of record k": the records that are asked of a log, and the first answer on which the two checkers differ.
 
 use crate::proved;
+use crate::source_kinds::Case;
 use crate::tally::SourceTally;
 use second::check::Refusal;
-use second::record::RECORD_BYTES;
-use second::source::{source_of_record, sources_of_log};
+use second::record::{records, Record, RECORD_BYTES};
+use second::source::{source_of_record, sources_of_log, Source};
 
 /// What the second checker answers to "source of record k", for every k.
-struct Sources(Result<Vec<Option<u8>>, Refusal>);
+struct Sources(Result<Vec<Option<Source>>, Refusal>);
 
 impl Sources {
-    fn at(&self, log: &[u8], k: usize) -> Result<Option<u8>, Refusal> {
+    fn at(&self, log: &[u8], k: usize) -> Result<Option<Source>, Refusal> {
         match &self.0 {
             Ok(sources) if k < sources.len() => Ok(sources[k]),
             Ok(_) => source_of_record(log, k as u64),
@@ -33,9 +34,10 @@ fn asked(log: &[u8]) -> impl Iterator<Item = usize> {
     (start..last).step_by(step).chain([last, past, usize::MAX])
 }
 
-/// The first source on which the two checkers differ, in words.
+/// The first source on which the two checkers differ, by its transaction or by its place, in words.
 pub fn difference(log: &[u8], tally: &mut SourceTally) -> Option<String> {
     let sources = Sources(sources_of_log(log));
+    let records = records(log);
     for k in asked(log) {
         let expected = sources.at(log, k);
         let got = proved::source_of_record(log, k);
@@ -45,18 +47,29 @@ pub fn difference(log: &[u8], tally: &mut SourceTally) -> Option<String> {
             ));
         }
         if sources.0.is_ok() {
-            count(log, k, expected, tally);
+            count(&records, k, expected, tally);
         }
     }
     None
 }
 
 /// Counts an answer of a log that passes by what it says.
-fn count(log: &[u8], k: usize, answer: Result<Option<u8>, Refusal>, tally: &mut SourceTally) {
+fn count(
+    records: &[Record],
+    k: usize,
+    answer: Result<Option<Source>, Refusal>,
+    tally: &mut SourceTally,
+) {
     match answer {
         Ok(None) => tally.none += 1,
-        Ok(Some(source)) if source == log[k * RECORD_BYTES + 1] => tally.own += 1,
-        Ok(Some(_)) => tally.other += 1,
+        Ok(Some(source)) => {
+            if source.transaction == records[k].transaction {
+                tally.own += 1;
+            } else {
+                tally.other += 1;
+            }
+            tally.count_kinds(&Case { records, k, source });
+        }
         Err(_) => tally.past_the_end += 1,
     }
 }

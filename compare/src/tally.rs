@@ -2,6 +2,7 @@
 //! the two checkers differ.
 
 use crate::sort_tally::SortTally;
+use crate::source_kinds::{Case, OF_SOURCES};
 use crate::verdict_tally::VerdictTally;
 use second::check::Refusal;
 use second::notation::show;
@@ -45,18 +46,31 @@ pub struct SourceTally {
     pub own: u64,
     pub none: u64,
     pub past_the_end: u64,
+    /// By the kind of the source. They are counted in `other` or `own` too.
+    kinds: [u64; OF_SOURCES.len()],
 }
 
 impl SourceTally {
+    /// Counts a source by its kinds.
+    pub fn count_kinds(&mut self, case: &Case) {
+        for (count, (_, is_of_it)) in self.kinds.iter_mut().zip(OF_SOURCES) {
+            *count += u64::from(is_of_it(case));
+        }
+    }
+
     fn met(&self) -> Vec<Met> {
         let asked = self.other + self.own + self.none + self.past_the_end;
-        vec![
+        let mut met = vec![
             Met(asked, "asked of logs that pass".to_string()),
             Met(self.other, "of another transaction".to_string()),
             Met(self.own, "own".to_string()),
             Met(self.none, "none".to_string()),
             Met(self.past_the_end, "refused 10".to_string()),
-        ]
+        ];
+        for (&count, (name, _)) in self.kinds.iter().zip(OF_SOURCES) {
+            met.push(Met(count, name.to_string()));
+        }
+        met
     }
 }
 

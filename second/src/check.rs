@@ -11,6 +11,15 @@ pub struct Refusal {
     pub place: usize,
 }
 
+impl Refusal {
+    /// "`refused number place`"
+    ///
+    /// The line that is printed for the refusal, with a newline at its end.
+    pub fn printed(self) -> String {
+        format!("refused {} {}\n", self.number, self.place)
+    }
+}
+
 /// "1 to 3 come first, in that order. Then records are taken from the first;
 /// at each, 4 to 8 are tried in order, and the first that applies is the
 /// answer. 9 comes after all records"

@@ -21,8 +21,9 @@ struct Read {
     item: u8,
     /// "if j has an earlier write record of that item in the log"
     own: bool,
-    /// The writer that the read has in the log.
-    source: Option<u8>,
+    /// The writer that the read has in the log: of its source the transaction
+    /// alone.
+    writer: Option<u8>,
 }
 
 impl Read {
@@ -38,7 +39,7 @@ impl Read {
         } else {
             last_writers[usize::from(self.item)]
         };
-        self.source == in_the_run
+        self.writer == in_the_run
     }
 }
 
@@ -96,7 +97,7 @@ impl Conditions {
             let read = Read {
                 item: record.item,
                 own: self.writes[who] & bit(record.item) != 0,
-                source: copy.last_writer,
+                writer: copy.last_writer,
             };
             if !self.reads[who].contains(&read) {
                 self.reads[who].push(read);

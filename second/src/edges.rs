@@ -1,5 +1,5 @@
-//! The write order, the three reasons of an edge and the question "edge from i
-//! to j".
+//! The write order, the three reasons of an edge, the question "edge from i to
+//! j" and what is printed for it.
 
 use crate::check::Refusal;
 use crate::history::History;
@@ -67,10 +67,14 @@ pub fn is_write_order(history: &History, i: u8, j: u8) -> bool {
 
 /// "3. Read before: i has a read of some item with source s, j writes that
 /// item, j is not s, and s comes before j in the write order."
+///
+/// Of the two numbers of a source, s is the transaction: with the second number
+/// "edges and verdict do not" change.
 pub fn is_read_before(history: &History, i: u8, j: u8) -> bool {
     for &place in history.places_of(i) {
         let item = history.records[place].item;
-        if let Some(s) = history.sources[place] {
+        if let Some(source) = history.sources[place] {
+            let s = source.transaction;
             if history.writes(j, item) && j != s && comes_before(history, item, s, j) {
                 return true;
             }
@@ -135,4 +139,15 @@ pub fn edge(log: &[u8], i: u64, j: u64) -> Result<u8, Refusal> {
         });
     }
     Ok(reason(&history, i as u8, j as u8))
+}
+
+/// What a command prints for the question: the reason, 0 where there is none,
+/// on one line; or `refused number place`.
+///
+/// The line ends with a newline.
+pub fn printed_edge(log: &[u8], i: u64, j: u64) -> String {
+    match edge(log, i, j) {
+        Ok(reason) => format!("{reason}\n"),
+        Err(refusal) => refusal.printed(),
+    }
 }

@@ -4,14 +4,14 @@ use std::collections::BTreeSet;
 
 use crate::check::{check, Refusal};
 use crate::record::{records, Record, TRANSACTIONS};
-use crate::source::sources;
+use crate::source::{sources, Source};
 
 /// The records of a log that passed, with what the rules ask of them.
 pub struct History {
     /// The records in the order of the log.
     pub records: Vec<Record>,
     /// The source of each record that is a read.
-    pub sources: Vec<Option<u8>>,
+    pub sources: Vec<Option<Source>>,
     /// For each transaction the places of its records, in order.
     pub places: Vec<Vec<usize>>,
     /// For each transaction in the log the place of its commit.

@@ -1,5 +1,6 @@
-//! The second checker: document 01 once more, by the plainest methods, for
-//! comparing its answers, log by log and table by table, with those of another checker.
+//! The second checker: document 01 and request A1 of document 02 once more, by
+//! the plainest methods, for comparing its answers, log by log and table by
+//! table, with those of another checker.
 
 pub mod check;
 pub mod conditions;

@@ -100,9 +100,7 @@ pub fn printed_answer(answer: Answer, buffer: &[u8]) -> String {
                 text += &format!("{} {}\n", buffer[2 * k], buffer[2 * k + 1]);
             }
         }
-        Answer::Refused(refusal) => {
-            text += &format!("refused {} {}\n", refusal.number, refusal.place);
-        }
+        Answer::Refused(refusal) => text += &refusal.printed(),
     }
     text
 }

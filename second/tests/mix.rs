@@ -123,7 +123,10 @@ fn passing_logs_hold_the_rare_things() {
         let log = make_of(Family::Passing, 9, index);
         let rows: Vec<&[u8]> = log.chunks_exact(RECORD_BYTES).collect();
         let sources = sources_of_log(&log).unwrap();
-        let own = rows.iter().zip(&sources).any(|(row, &s)| s == Some(row[1]));
+        let own = rows
+            .iter()
+            .zip(sources)
+            .any(|(row, source)| source.map(|source| source.transaction) == Some(row[1]));
         let lone = |who| rows.iter().filter(|row| row[1] == who).count() == 1;
         let repeated = rows
             .iter()

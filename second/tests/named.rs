@@ -69,8 +69,8 @@ fn conflicts_alone_leave_p12_without_a_cycle() {
 #[test]
 fn sources_by_item_would_let_p2_pass() {
     let mut history = History::of_log(&by_name("P2").log).unwrap();
-    assert_eq!(history.sources[7], Some(0));
-    history.sources[7] = Some(1);
+    assert_eq!(history.sources[7], common::at(0, 1));
+    history.sources[7] = common::at(1, 5);
     let sorted = sort(&history.transactions(), |i, j| reason(&history, i, j) != 0);
     assert_eq!(sorted, Sorted::Line(vec![0, 1, 2]));
 }

@@ -1,11 +1,14 @@
-//! The two questions: order of their checks and their answers.
+//! The two questions: order of their checks, their answers and their lines.
 
+mod common;
+
+use common::at;
 use second::check::{check, Refusal};
-use second::edges::{all_reasons, edge, reason, reasons, write_order};
+use second::edges::{all_reasons, edge, printed_edge, reason, reasons, write_order};
 use second::history::History;
 use second::maker::make;
 use second::notation::log;
-use second::source::{source_of_record, sources_of_log};
+use second::source::{printed_source, source_of_record, sources_of_log};
 
 const TEN: Refusal = Refusal {
     number: 10,
@@ -23,10 +26,10 @@ fn a_source_is_found_at_the_same_copy_only() {
             None,
             None,
             None,
-            Some(1),
+            at(1, 3),
             None,
-            Some(1),
-            Some(0),
+            at(1, 3),
+            at(0, 1),
             None
         ]
     );
@@ -75,6 +78,60 @@ fn edges_of_p12_and_pairs_without_one() {
     assert_eq!(write_order(&history, 0), [0, 2]);
     assert_eq!(write_order(&history, 1), [0, 1]);
     assert_eq!(write_order(&history, 2), []);
+}
+
+#[test]
+fn the_line_for_a_source() {
+    let p2 = log("w0[xA] w0[xB] w0[yC] c0 r1[yC] w1[xA] c1 r2[xB] w2[yC] c2");
+    assert_eq!(printed_source(&p2, 4), "0 2\n");
+    assert_eq!(printed_source(&p2, 7), "0 1\n");
+    for k in [0, 1, 2, 3, 5, 6, 8, 9] {
+        assert_eq!(printed_source(&p2, k), "none\n");
+    }
+    for k in [10, 11, 1 << 32, u64::MAX] {
+        assert_eq!(printed_source(&p2, k), "refused 10 0\n");
+    }
+    assert_eq!(printed_source(&[], 0), "refused 10 0\n");
+}
+
+#[test]
+fn the_line_for_an_edge() {
+    let p2 = log("w0[xA] w0[xB] w0[yC] c0 r1[yC] w1[xA] c1 r2[xB] w2[yC] c2");
+    assert_eq!(printed_edge(&p2, 1, 2), "1\n");
+    assert_eq!(printed_edge(&p2, 2, 1), "3\n");
+    let p4 = log("w0[xA] w1[xA] c1 c0");
+    assert_eq!(printed_edge(&p4, 0, 1), "1\n");
+    assert_eq!(printed_edge(&p4, 1, 0), "2\n");
+    for (i, j) in [(1, 0), (2, 0), (1, 1), (0, 3), (3, 0), (63, 63)] {
+        assert_eq!(printed_edge(&p2, i, j), "0\n");
+    }
+    for (i, j) in [(64, 0), (0, 64), (64, 64), (u64::MAX, 1)] {
+        assert_eq!(printed_edge(&p2, i, j), "refused 10 0\n");
+    }
+    assert_eq!(printed_edge(&[], 0, 1), "0\n");
+}
+
+/// A refusal of the log is printed for every record and every pair, also for
+/// those that 10 would refuse.
+#[test]
+fn the_line_for_a_refused_log() {
+    for (refused, line) in [
+        (vec![0; 16_385], "refused 1 0\n"),
+        (log("(3,0,0)"), "refused 2 0\n"),
+        (log("c0 (0,0,0,0)"), "refused 4 1\n"),
+        (log("(3,0,1,0)"), "refused 5 0\n"),
+        (log("c0 c0"), "refused 6 1\n"),
+        (log("r0[xA] c0"), "refused 7 0\n"),
+        (log("w0[xA] w0[xB] c0 w1[xA] r1[xB] c1"), "refused 8 4\n"),
+        (log("w1[xA] w0[xA]"), "refused 9 1\n"),
+    ] {
+        for k in [0, 4, u64::MAX] {
+            assert_eq!(printed_source(&refused, k), line);
+        }
+        for (i, j) in [(0, 0), (0, 1), (64, u64::MAX)] {
+            assert_eq!(printed_edge(&refused, i, j), line);
+        }
+    }
 }
 
 /// The zeros of a commit are no copy: x at A is copy 0 too.

@@ -4,6 +4,7 @@ use mathlib.Core.Path.{_≡_, sym, _∙_}
 use mathlib.Core.List.{List}
 use Rattle.clib.specs.Promises.{ChecksInC, TellsSourceInC, TellsEdgeInC, SortsInC, JudgesInC}
 use Rattle.clib.specs.declared.Coded.{Coded}
+use Rattle.clib.specs.declared.CodedSource.{CodedSource}
 use Rattle.clib.specs.declared.CodedSorted.{CodedSorted}
 use Rattle.clib.specs.declared.CodedVerdict.{CodedVerdict}
 
@@ -11,7 +12,7 @@ use Rattle.clib.specs.declared.CodedVerdict.{CodedVerdict}
 pub check-determined-in-C : (log : List ℕ) (a b : Coded) → ChecksInC log a → ChecksInC log b → a ≡ b
 check-determined-in-C log a b p q = p ∙ sym q
 
-pub source-determined-in-C : (log : List ℕ) (k : ℕ) (a b : Coded) → TellsSourceInC log k a → TellsSourceInC log k b → a ≡ b
+pub source-determined-in-C : (log : List ℕ) (k : ℕ) (a b : CodedSource) → TellsSourceInC log k a → TellsSourceInC log k b → a ≡ b
 source-determined-in-C log k a b p q = p ∙ sym q
 
 pub edge-determined-in-C : (log : List ℕ) (i j : ℕ) (a b : Coded) → TellsEdgeInC log i j a → TellsEdgeInC log i j b → a ≡ b

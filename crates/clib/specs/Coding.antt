@@ -1,11 +1,13 @@
--- How document 01's answers stand in the numbers of the C face: the refusal's number and place, or number 0 and then the value; a line or
--- a cycle; and a verdict.
+-- How document 01's answers stand in the numbers of the C face: the refusal's number and place, or number 0 and then the value; a source; a
+-- line or a cycle; and a verdict.
 use Prim.Native.Nat.{ℕ}
 use mathlib.Core.Option.{Option, none, some}
+use Rattle.histories.specs.Source.{Source}
 use Rattle.rules.specs.Answer.{Answer, gives, refused}
-use Rattle.rules.specs.Record.{transactions}
+use Rattle.rules.specs.Record.{most-records}
 use Rattle.lines.specs.Rule.{LineOrCycle, line, cycle}
 use Rattle.clib.specs.declared.Coded.{Coded}
+use Rattle.clib.specs.declared.CodedSource.{CodedSource}
 use Rattle.clib.specs.declared.CodedSorted.{CodedSorted}
 use Rattle.clib.specs.declared.CodedVerdict.{CodedVerdict}
 
@@ -21,10 +23,15 @@ coded value (refused n p) = coded-refusal n p
 abbrev pub passed-value : Unit {0} → ℕ
 passed-value u = 0
 
--- a source has its transaction for a value, which is below 64 (theorem `source-low`), and "none" has 64
-abbrev pub source-value : Option ℕ → ℕ
-source-value (some t) = t
-source-value none = transactions
+-- "none" in both numbers of a source: above every record, and so above every transaction (theorem `source-low`)
+abbrev pub none-number : ℕ
+none-number = most-records
+
+-- a source has its two numbers
+abbrev pub coded-source : Answer (Option Source) → CodedSource
+coded-source (gives (some s)) = record { number = 0; place = 0; transaction = s .transaction; «record» = s .place }
+coded-source (gives none) = record { number = 0; place = 0; transaction = none-number; «record» = none-number }
+coded-source (refused n p) = record { number = n; place = p; transaction = 0; «record» = 0 }
 
 -- a reason is its number
 abbrev pub reason-value : ℕ → ℕ

@@ -11,16 +11,17 @@ use Rattle.lines.specs.Rule.{members-of, length-of}
 use Rattle.sort.specs.Promises.{sorted-table}
 use Rattle.answers.specs.Verdict.{verdict-answer, how-many}
 use Rattle.answers.specs.Verdict.{LeavesRecords}
-use Rattle.clib.specs.Coding.{coded, passed-value, source-value, reason-value, coded-sorted, coded-verdict}
+use Rattle.clib.specs.Coding.{coded, passed-value, coded-source, reason-value, coded-sorted, coded-verdict}
 use Rattle.clib.specs.declared.Coded.{Coded}
+use Rattle.clib.specs.declared.CodedSource.{CodedSource}
 use Rattle.clib.specs.declared.CodedSorted.{CodedSorted}
 use Rattle.clib.specs.declared.CodedVerdict.{CodedVerdict}
 
 abbrev pub ChecksInC : List ℕ → Coded → Type 0
 ChecksInC log answer = answer ≡ coded passed-value (check-answer log)
 
-abbrev pub TellsSourceInC : List ℕ → ℕ → Coded → Type 0
-TellsSourceInC log k answer = answer ≡ coded source-value (source-answer log k)
+abbrev pub TellsSourceInC : List ℕ → ℕ → CodedSource → Type 0
+TellsSourceInC log k answer = answer ≡ coded-source (source-answer log k)
 
 abbrev pub TellsEdgeInC : List ℕ → (i j : ℕ) → Coded → Type 0
 TellsEdgeInC log i j answer = answer ≡ coded reason-value (edge-answer log i j)

@@ -5,9 +5,9 @@ ghost use Rattle.refusals.specs.Numbers.{number-of, place-of};
 ghost use Rattle.clib.specs.Coding.{coded-refusal};
 ghost use Rattle.clib.specs.Promises.{ChecksInC, TellsSourceInC, TellsEdgeInC, SortsInC, JudgesInC};
 use edges::graph::Edge;
-use format::record::TRANSACTIONS;
+use format::record::MOST_RECORDS;
 use log::check::check;
-use log::source::Source;
+use log::source::SourceAnswer;
 use refusals::refusal::Checked;
 use refusals::refusal::Refusal;
 use sets::NUMBERS;
@@ -24,6 +24,16 @@ pub struct Coded {
     pub number: u64,
     pub place: u64,
     pub value: u64,
+}
+
+// A source in numbers: the refusal's number and place, or number 0 and then the transaction and the place of its write record, or NONE in
+// both. `struct fruscalenta_source` of the header.
+#[repr(C)]
+pub struct CodedSource {
+    pub number: u64,
+    pub place: u64,
+    pub transaction: u64,
+    pub record: u64,
 }
 
 // A line or a cycle in numbers: whether it is a cycle, 1 or 0, and how many members it has. `struct fruscalenta_sorted` of the header.
@@ -43,8 +53,8 @@ pub struct CodedVerdict {
     pub length: u64,
 }
 
-// The value that stands for "none": one past the highest transaction.
-pub const NONE: u64 = TRANSACTIONS as u64;
+// The number that stands for "none": one past the highest place of a record, and so above every transaction too.
+pub const NONE: u64 = MOST_RECORDS as u64;
 
 fn refused(r: Refusal) -> Coded
     ensures { λ a. ⌜ a ≡ coded-refusal (number-of r) (place-of r) ⌝ }
@@ -71,23 +81,30 @@ pub extern "C" fn fruscalenta_check(log: &[u8]) -> Coded
     }
 }
 
-// The source of record k. The value is its transaction, or NONE for a write or a commit.
+// The source of record k: its transaction and its place, or NONE for a write or a commit.
 #[no_mangle]
-pub extern "C" fn fruscalenta_source_of_record(log: &[u8], k: usize) -> Coded
+pub extern "C" fn fruscalenta_source_of_record(log: &[u8], k: usize) -> CodedSource
     ensures { λ a. ⌜ TellsSourceInC (now (log .entry)) k a ⌝ }
 {
     match source_of_record(log, k) {
-        Source::Of(t) => Coded {
+        SourceAnswer::Of(source) => CodedSource {
             number: 0,
             place: 0,
-            value: t as u64,
+            transaction: source.transaction as u64,
+            record: source.place as u64,
         },
-        Source::None => Coded {
+        SourceAnswer::None => CodedSource {
             number: 0,
             place: 0,
-            value: NONE,
+            transaction: NONE,
+            record: NONE,
         },
-        Source::Refused(r) => refused(r),
+        SourceAnswer::Refused(r) => CodedSource {
+            number: r.number(),
+            place: r.place() as u64,
+            transaction: 0,
+            record: 0,
+        },
     }
 }
 

@@ -10,7 +10,7 @@ use lib.Dec.{eqb}
 use Rattle.sets.specs.Search.{some-below, some-from, first-below, last-below}
 use Rattle.histories.specs.History.{History, is-by, uses, uses-copy, writes-copy, writes-item, on-same-copy, conflicting}
 use Rattle.histories.specs.Earlier.{some-before, some-of, some-after, first-of, committed, wrote-copy, wrote-item, writes}
-use Rattle.histories.specs.Source.{shows, is-written, source-record, source}
+use Rattle.histories.specs.Source.{Source, shows, is-written, source-record, write-record, source, writer-behind}
 use Rattle.histories.specs.Order.{comes-before, writer-after}
 use Rattle.histories.specs.Reasons.{gives-conflict, gives-write-order, gives-read-before}
 use Rattle.histories.specs.Reasons.{conflict, write-order, read-before, two-of-them, edge, reason}
@@ -122,22 +122,42 @@ two-reads = w 0 x A ∷ c 0 ∷ r 1 x A ∷ w 1 x A ∷ r 1 x A ∷ c 1 ∷ []
 abbrev P3-after-3 : List Step
 P3-after-3 = w 3 y C ∷ c 3 ∷ w 0 x A ∷ w 0 x B ∷ w 0 y C ∷ c 0 ∷ r 1 y C ∷ w 1 x A ∷ c 1 ∷ w 2 y C ∷ c 2 ∷ []
 
--- Sources.
+-- Sources: the transaction, and the place of the write record.
+abbrev written : (t place : ℕ) → Option Source
+written t place = some (record { transaction = t; place = place })
+
 pub record SourcesTold : Type 0 where
   -- "the last earlier write record on the same copy", and the error "taking the latest write of the item, at any site": r2[xB] of P2 has
-  -- source 0, though 1 has written x since, at A
-  on-the-copy : source (plain P2) 7 ≡ some 0
+  -- source 0 at 1, though 1 has written x since, at A; and r1[yC] has source 0 at 2
+  on-the-copy : source (plain P2) 7 ≡ written 0 1
+  of-another-item : source (plain P2) 4 ≡ written 0 2
   -- "two reads of one item with different sources": before w1[xA] the source is 0, after it 1, "the reader itself"
-  before-the-write : source (plain two-reads) 2 ≡ some 0
-  after-the-write : source (plain two-reads) 4 ≡ some 1
+  before-the-write : source (plain two-reads) 2 ≡ written 0 0
+  after-the-write : source (plain two-reads) 4 ≡ written 1 3
+  -- "the last earlier write record": of two by one transaction it is the later, and none that stands behind the read
+  written-again : source (plain (w 0 x A ∷ w 0 x A ∷ r 1 x A ∷ w 0 x A ∷ [])) 2 ≡ written 0 1
   -- "none for a write or commit"
   of-a-write : source (plain two-reads) 3 ≡ none
+  of-a-commit : source (plain P2) 9 ≡ none
   -- a write that the read passes over is not its source: here 1, so that the source is 0
-  passed-over : source (history (w 0 x A ∷ w 1 x A ∷ r 2 x A ∷ []) (λ t. true) (λ e k. not (eqb e 1)) (λ k. true)) 2 ≡ some 0
+  passed-over : source (history (w 0 x A ∷ w 1 x A ∷ r 2 x A ∷ []) (λ t. true) (λ e k. not (eqb e 1)) (λ k. true)) 2 ≡ written 0 0
+  -- the writer alone
+  writer-alone : writer-behind (plain two-reads) 4 ≡ some 1
 
 pub sources-told : SourcesTold
-unfolding some-below first-below last-below writes-copy writes-item shows source-record source
-sources-told = record { on-the-copy = refl; before-the-write = refl; after-the-write = refl; of-a-write = refl; passed-over = refl }
+unfolding some-below first-below last-below writes-copy writes-item shows source-record write-record source writer-behind
+sources-told =
+    record {
+      on-the-copy = refl;
+      of-another-item = refl;
+      before-the-write = refl;
+      after-the-write = refl;
+      written-again = refl;
+      of-a-write = refl;
+      of-a-commit = refl;
+      passed-over = refl;
+      writer-alone = refl;
+    }
 
 -- Write order: "the one whose commit stands earlier comes first".
 pub record OrdersTold : Type 0 where
@@ -179,7 +199,7 @@ pub record ReasonsTold : Type 0 where
 
 pub reasons-told : ReasonsTold
 unfolding some-below some-from first-below last-below is-by uses uses-copy writes-copy writes-item some-before some-of some-after first-of
-    committed wrote-copy wrote-item writes shows is-written source-record source comes-before writer-after on-same-copy conflicting
+    committed wrote-copy wrote-item writes shows is-written source-record write-record source writer-behind comes-before writer-after on-same-copy conflicting
     gives-conflict gives-write-order gives-read-before conflict write-order read-before two-of-them edge reason
 reasons-told =
     record {

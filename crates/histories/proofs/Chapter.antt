@@ -11,13 +11,13 @@ use Rattle.sets.specs.Paths.{by-edge, edge-then, Acyclic}
 use Rattle.sets.proofs.Truth.{clash, and-left, and-right}
 use Rattle.histories.specs.History.{History, Counts, uses, conflicting}
 use Rattle.histories.specs.Earlier.{writes, wrote-item, Writer}
-use Rattle.histories.specs.Source.{shows, source-record, source}
+use Rattle.histories.specs.Source.{shows, source-record, writer-behind}
 use Rattle.histories.specs.Order.{comes-before, writer-after}
 use Rattle.histories.specs.Reasons.{gives-write-order, gives-read-before, conflict, write-order, read-before, two-of-them, edge}
 use Rattle.histories.specs.Chapter.{serialization-edge, ReadsFrom, InducesWriteOrder, InducesReadOrder, RDSG}
 use Rattle.histories.specs.Sound.{Sound}
 use Rattle.histories.proofs.OfTransactions.{of-hit, WritesCopy, writes-copy-hit, wrote-copy-found, writes-found, writes-hit}
-use Rattle.histories.proofs.Sources.{shows-found, shows-hit, Sourced, sourced, source-of, source-record-of}
+use Rattle.histories.proofs.Sources.{shows-found, shows-hit, Sourced, sourced, writer-of, source-record-of}
 use Rattle.histories.proofs.Orders.{one-comes-first, writer-after-hit}
 use Rattle.histories.proofs.Conflicts.{read-uses, write-uses, write-then-use, conflict-hit}
 use Rattle.histories.proofs.Reasons.{write-gives, sourced-gives}
@@ -50,10 +50,10 @@ module _ (h : History) where
   counts-of e t l q p = record { there = l; part = subst (λ (u : ℕ). h .takes-part u ≡ true) (sym q) p }
 
   -- only a read has a source; and where it counts and is real, its transaction reads from there
-  pub source-reads : (k s : ℕ) → source h k ≡ some s → h .is-read k ≡ true
+  pub source-reads : (k s : ℕ) → writer-behind h k ≡ some s → h .is-read k ≡ true
   source-reads k s q = let r = source-record-of h k s q in sourced h k (r .at) (r .found) .reads
 
-  pub reads-from : (k s : ℕ) → Counts h k → h .real k ≡ true → source h k ≡ some s → ReadsFrom h (h .item k) (h .transaction k) s k
+  pub reads-from : (k s : ℕ) → Counts h k → h .real k ≡ true → writer-behind h k ≡ some s → ReadsFrom h (h .item k) (h .transaction k) s k
   reads-from k s c real q = record { counts = c; its-own = refl; of-item = refl; is-real = real; from = q }
 
   -- an edge of SG joins two that take part, by a conflict; and the graph has every one
@@ -102,7 +102,7 @@ module _ (h : History) (sound : Sound h) where
         wrote = writes-hit h i x f there (found .own) (w .is-one) (one-item ∙ r .of-item);
       }
     where
-      source-part : (s : ℕ) → source h e ≡ some s → h .takes-part s ≡ true → h .takes-part i ≡ true
+      source-part : (s : ℕ) → writer-behind h e ≡ some s → h .takes-part s ≡ true → h .takes-part i ≡ true
       source-part s q p = let same : s ≡ i = cc in subst (λ (t : ℕ). h .takes-part t ≡ true) same p
 
   -- THEOREM: the graph induces a write order, with cycles or without
@@ -132,7 +132,7 @@ module _ (h : History) (sound : Sound h) where
 
   -- THEOREM: Lemma 8.1. "If SG(H) is acyclic and for some x wi[x] <i ri[x], then Ti reads-x-from Ti in H"
   pub lemma-8-1 : Acyclic (serialization-edge h) → (k : ℕ) → Counts h k → h .is-read k ≡ true
-      → wrote-item h (h .transaction k) (h .item k) k ≡ true → source h k ≡ some (h .transaction k)
+      → wrote-item h (h .transaction k) (h .item k) k ≡ true → writer-behind h k ≡ some (h .transaction k)
   lemma-8-1 acyclic k c r w =
       let own = wrote-copy-found h (h .transaction k) (h .copy k) k (sound .own-copies k c r w) in
       let has = sound .has-source k c r in
@@ -142,8 +142,8 @@ module _ (h : History) (sound : Sound h) where
       (sourced h k (at .at) (at .found)) (ℕ-discrete (h .transaction (at .at)) (h .transaction k)) (decLt (own .at) (at .at))
     where
       go : (e f : ℕ) → e < k → h .transaction e ≡ h .transaction k → WritesCopy h e (h .copy k) → h .takes-part (h .transaction f) ≡ true
-          → source-record h k ≡ some f → Sourced h k f → Dec (h .transaction f ≡ h .transaction k) → Dec (e < f) → source h k ≡ some (h .transaction k)
-      go e f a b v p q s (yes same) d = source-of h k f q ∙ ap some same
+          → source-record h k ≡ some f → Sourced h k f → Dec (h .transaction f ≡ h .transaction k) → Dec (e < f) → writer-behind h k ≡ some (h .transaction k)
+      go e f a b v p q s (yes same) d = writer-of h k f q ∙ ap some same
       go e f a b v p q s (no d) (yes l) = absurd (between h acyclic e f k c r l (s .earlier) v (shows-found h k f (s .shown)) b p d)
       go e f a b v p q s (no d) (no l) = absurd (clash (shows h k e) shown (s .between e (later (ℕ-discrete e f)) a))
         where

@@ -11,7 +11,7 @@ use Rattle.histories.specs.Source.{is-written}
 use Rattle.histories.specs.Faults.{after-commit, reads-unwritten, reads-past-own, CommitsOnce, Faultless}
 use Rattle.histories.specs.Sound.{Commits, HasSource, Sound}
 use Rattle.histories.proofs.OfTransactions.{before-found, before-hit, first-of-some}
-use Rattle.histories.proofs.Sources.{source-of, written-sourced}
+use Rattle.histories.proofs.Sources.{writer-of, written-sourced}
 
 module _ (h : History) where
   -- a record after a commit of its transaction
@@ -56,7 +56,7 @@ module _ (h : History) where
     its-source : (k : ℕ) → Counts h k → h .is-read k ≡ true → HasSource h k
     its-source k c r =
         let s = written-sourced h k r (read-written k (w .no-7 k (c .there)) r) in
-        record { origin = h .transaction (s .at); from = source-of h k (s .at) (s .found); part = w .source-part k (s .at) c (s .found) }
+        record { origin = h .transaction (s .at); from = writer-of h k (s .at) (s .found); part = w .source-part k (s .at) c (s .found) }
 
     -- THEOREM: a history without faults is sound
     pub faultless-sound : Sound h

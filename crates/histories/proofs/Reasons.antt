@@ -7,11 +7,11 @@ use mathlib.Core.Logic.{⊎-elim}
 use Rattle.sets.proofs.Truth.{either, clash, and-left, and-right, and-nothing}
 use Rattle.histories.specs.History.{History, conflicting}
 use Rattle.histories.specs.Earlier.{writes}
-use Rattle.histories.specs.Source.{source-record, source}
+use Rattle.histories.specs.Source.{source-record, writer-behind}
 use Rattle.histories.specs.Order.{writer-after}
 use Rattle.histories.specs.Reasons.{of-source, gives-conflict, gives-write-order, gives-read-before, conflict, write-order, read-before}
 use Rattle.histories.proofs.OfTransactions.{of-found, of-hit, after-found, writes-hit}
-use Rattle.histories.proofs.Sources.{source-of, source-none}
+use Rattle.histories.proofs.Sources.{writer-of, writer-none}
 use Rattle.histories.proofs.Orders.{WriterAfter, writer-after-found, writer-after-hit}
 
 module _ (h : History) (e j : ℕ) where
@@ -25,7 +25,7 @@ module _ (h : History) (e j : ℕ) where
   write-gives w = rw w refl
 
   -- by reason 3: a real read, the writers after its source
-  pub sourced-gives : (s : ℕ) → h .real e ≡ true → source h e ≡ some s → gives-read-before h e j ≡ writer-after h (h .item e) s j
+  pub sourced-gives : (s : ℕ) → h .real e ≡ true → writer-behind h e ≡ some s → gives-read-before h e j ≡ writer-after h (h .item e) s j
   unfolding gives-read-before
   sourced-gives s r q = rw (r, q) refl
 
@@ -33,17 +33,17 @@ module _ (h : History) (e j : ℕ) where
   unfolding gives-read-before
   unreal-gives r = rw r refl
 
-  pub no-source-gives : source h e ≡ none → gives-read-before h e j ≡ false
+  pub no-source-gives : writer-behind h e ≡ none → gives-read-before h e j ≡ false
   unfolding gives-read-before
   no-source-gives q = rw q (and-nothing (h .real e))
 
   -- by the record of the source, as a walk back finds it
   pub read-gives : (f : ℕ) → h .real e ≡ true → source-record h e ≡ some f
       → gives-read-before h e j ≡ writer-after h (h .item e) (h .transaction f) j
-  read-gives f r q = sourced-gives (h .transaction f) r (source-of h e f q)
+  read-gives f r q = sourced-gives (h .transaction f) r (writer-of h e f q)
 
   pub sourceless-gives : source-record h e ≡ none → gives-read-before h e j ≡ false
-  sourceless-gives q = no-source-gives (source-none h e q)
+  sourceless-gives q = no-source-gives (writer-none h e q)
 
   record OrderGiven : Type 0 where
     is-one : h .is-write e ≡ true
@@ -60,16 +60,16 @@ module _ (h : History) (e j : ℕ) where
   record ReadGiven : Type 0 where
     is-real : h .real e ≡ true
     origin : ℕ
-    from : source h e ≡ some origin
+    from : writer-behind h e ≡ some origin
     after : writer-after h (h .item e) origin j ≡ true
 
   read-found : gives-read-before h e j ≡ true → ReadGiven
   read-found b = ⊎-elim is-real (λ (r : h .real e ≡ false). absurd (clash (gives-read-before h e j) b (unreal-gives r))) (either (h .real e))
     where
       is-real : h .real e ≡ true → ReadGiven
-      is-real r = go (source h e) refl
+      is-real r = go (writer-behind h e) refl
         where
-          go : (o : Option ℕ) → source h e ≡ o → ReadGiven
+          go : (o : Option ℕ) → writer-behind h e ≡ o → ReadGiven
           go (some s) q = record { is-real = r; origin = s; from = q; after = sym (sourced-gives s r q) ∙ b }
           go none q = absurd (clash (gives-read-before h e j) b (no-source-gives q))
 
@@ -125,7 +125,7 @@ module _ (h : History) (i j : ℕ) where
     pub there : at < h .size
     pub reader : h .transaction at ≡ i
     pub is-real : h .real at ≡ true
-    pub from : source h at ≡ some origin
+    pub from : writer-behind h at ≡ some origin
     pub next : WriterAfter h (h .item at) origin j
 
   pub read-before-found : read-before h i j ≡ true → ReadBefore

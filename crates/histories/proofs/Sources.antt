@@ -1,14 +1,15 @@
 -- The source of a record: the last write of its copy that the record does not pass over, with none between.
 use Prim.Native.Nat.{ℕ, _<_}
 use native.Mathlib.Omega.{arith}
-use mathlib.Core.Path.{_≡_, refl, ap}
+use mathlib.Core.Path.{_≡_, refl, _∙_, ap, subst}
 use mathlib.Core.Bool.{Bool, true, false, _&&_, cond}
-use mathlib.Core.Option.{Option, none, some}
+use mathlib.Core.Logic.{_↔_}
+use mathlib.Core.Option.{Option, none, some, Option·map}
 use Rattle.sets.specs.Search.{last-below}
 use Rattle.sets.proofs.Truth.{clash, and-true, and-right}
 use Rattle.sets.proofs.Searches.{Last, last-none, last-some, last-hit, last-miss, last-found, last-view, some-none, some-hit}
 use Rattle.histories.specs.History.{History, writes-copy}
-use Rattle.histories.specs.Source.{shows, is-written, source-record, its-transaction, source}
+use Rattle.histories.specs.Source.{Source, shows, is-written, source-record, write-record, source, writer-behind}
 use Rattle.histories.proofs.OfTransactions.{WritesCopy, writes-copy-found}
 
 module _ (h : History) (k : ℕ) where
@@ -52,27 +53,57 @@ module _ (h : History) (k : ℕ) where
       go true r q = from r (last-found (shows h k) k q)
       go false r q = let z : _≡_ {A = ℕ} 0 1 = cc in absurd (omega arith)
 
-  -- the source is the transaction of the source record
-  pub source-of : (e : ℕ) → source-record h k ≡ some e → source h k ≡ some (h .transaction e)
+  -- the source has the two numbers of that record, and the writer behind the read is the first of them
+  pub source-of : (e : ℕ) → source-record h k ≡ some e → source h k ≡ some (write-record h e)
   unfolding source
-  source-of e q = ap (its-transaction h) q
+  source-of e q = ap (Option·map (write-record h)) q
 
-  pub source-none : source-record h k ≡ none → source h k ≡ none
+  pub source-absent : source-record h k ≡ none → source h k ≡ none
   unfolding source
-  source-none q = ap (its-transaction h) q
+  source-absent q = rw q refl
 
+  pub writer-of : (e : ℕ) → source-record h k ≡ some e → writer-behind h k ≡ some (h .transaction e)
+  unfolding write-record writer-behind
+  writer-of e q = ap (Option·map (λ (s : Source). s .transaction)) (source-of e q)
+
+  pub writer-none : source-record h k ≡ none → writer-behind h k ≡ none
+  unfolding writer-behind
+  writer-none q = rw (source-absent q) refl
+
+  -- and back: who wrote has a record there
   pub record SourceAt (t : ℕ) : Type 0 where
     pub at : ℕ
     pub found : source-record h k ≡ some at
     pub own : h .transaction at ≡ t
 
-  pub source-record-of : (t : ℕ) → source h k ≡ some t → SourceAt t
-  unfolding source
+  pub source-record-of : (t : ℕ) → writer-behind h k ≡ some t → SourceAt t
+  unfolding write-record source writer-behind
   source-record-of t = go (source-record h k) refl
     where
-      go : (o : Option ℕ) → source-record h k ≡ o → its-transaction h o ≡ some t → SourceAt t
+      go : (o : Option ℕ) → source-record h k ≡ o → Option·map (λ (s : Source). s .transaction) (Option·map (write-record h) o) ≡ some t → SourceAt t
       go none q b = let z : _≡_ {A = ℕ} 0 1 = cc in absurd (omega arith)
       go (some e) q b = let same : h .transaction e ≡ t = cc in record { at = e; found = q; own = same }
+
+  -- THEOREM: two numbers are the source exactly where the second is the place of the last write of the copy before the read, with none
+  -- between, and the first is the transaction of that write
+  pub record Named (s : Source) : Type 0 where
+    pub placed : Sourced (s .place)
+    pub own : h .transaction (s .place) ≡ s .transaction
+
+  pub source-exactly : (s : Source) → (source h k ≡ some s) ↔ Named s
+  unfolding write-record source
+  source-exactly s = (go (source-record h k) refl, back)
+    where
+      go : (o : Option ℕ) → source-record h k ≡ o → Option·map (write-record h) o ≡ some s → Named s
+      go none q b = let z : _≡_ {A = ℕ} 0 1 = cc in absurd (omega arith)
+      go (some e) q b =
+          let same : write-record h e ≡ s = cc in subst Named same (record { placed = sourced e q; own = refl })
+
+      back : Named s → source h k ≡ some s
+      back n =
+          let p = n .placed in
+          source-of (s .place) (source-hit (p .reads) (s .place) (p .earlier) (p .between) (p .shown))
+          ∙ ap (λ (t : ℕ). some (record { transaction = t; place = s .place })) (n .own)
 
   -- a read of a copy that is written has a source
   pub record SourceFound : Type 0 where

@@ -8,7 +8,7 @@ use mathlib.Core.Logic.{_⊎_}
 use Rattle.sets.specs.Paths.{Precedes}
 use Rattle.histories.specs.History.{History, Counts}
 use Rattle.histories.specs.Earlier.{Writer}
-use Rattle.histories.specs.Source.{source}
+use Rattle.histories.specs.Source.{writer-behind}
 use Rattle.histories.specs.Reasons.{conflict, two-of-them}
 
 module _ (h : History) where
@@ -22,7 +22,7 @@ module _ (h : History) where
     pub its-own : h .transaction e ≡ j
     pub of-item : h .item e ≡ x
     pub is-real : h .real e ≡ true
-    pub from : source h e ≡ some i
+    pub from : writer-behind h e ≡ some i
 
   -- "1. if T_i and T_k write x, then either T_i << T_k or T_k << T_i": two transactions, so i is not k
   abbrev pub InducesWriteOrder : (ℕ → ℕ → Bool) → Type 0

@@ -6,7 +6,7 @@ use mathlib.Core.Option.{Option, none, some}
 use lib.Dec.{eqb}
 use Rattle.histories.specs.History.{History, conflicting}
 use Rattle.histories.specs.Earlier.{some-of, some-after}
-use Rattle.histories.specs.Source.{source}
+use Rattle.histories.specs.Source.{writer-behind}
 use Rattle.histories.specs.Order.{writer-after}
 
 -- a source, where there is one, passes the test
@@ -30,7 +30,7 @@ module _ (h : History) where
 
   -- 3. "i has a read of some item with source s, j writes that item, j is not s, and s comes before j in the write order"
   unfoldable pub gives-read-before : ℕ → ℕ → Bool
-  gives-read-before e j = h .real e && of-source (source h e) (λ s. writer-after h (h .item e) s j)
+  gives-read-before e j = h .real e && of-source (writer-behind h e) (λ s. writer-after h (h .item e) s j)
 
   -- the three reasons
   unfoldable pub conflict : ℕ → ℕ → Bool

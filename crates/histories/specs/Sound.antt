@@ -5,7 +5,7 @@ use mathlib.Core.Bool.{true}
 use mathlib.Core.Option.{some}
 use Rattle.histories.specs.History.{History, Counts, uses, writes-copy}
 use Rattle.histories.specs.Earlier.{first-of, wrote-copy, wrote-item}
-use Rattle.histories.specs.Source.{source}
+use Rattle.histories.specs.Source.{writer-behind}
 use Rattle.histories.specs.Faults.{PlainCopies}
 
 module _ (h : History) where
@@ -17,7 +17,7 @@ module _ (h : History) where
   -- the read k has a source, and it takes part
   pub record HasSource (k : ℕ) : Type 0 where
     pub origin : ℕ
-    pub from : source h k ≡ some origin
+    pub from : writer-behind h k ≡ some origin
     pub part : h .takes-part origin ≡ true
 
   pub record Sound : Type 0 where

@@ -1,9 +1,10 @@
 -- The promises determine the answers of a check and of the question of a source.
 use Prim.Native.Nat.{ℕ, suc, _-_}
 use native.Mathlib.Omega.{arith}
-use mathlib.Core.Path.{_≡_, refl, sym, _∙_, ap}
+use mathlib.Core.Path.{_≡_, refl, sym, _∙_, ap, ap₂}
 use mathlib.Core.List.{List}
 use mathlib.Core.Option.{Option, none, some}
+use Rattle.histories.specs.Source.{Source}
 use Rattle.rules.specs.Answer.{Answer, gives, refused}
 use Rattle.rules.proofs.Answers.{said-number, said-place}
 use Rattle.refusals.specs.declared.refusal.Checked.{Checked}
@@ -12,23 +13,35 @@ use Rattle.log.specs.Numbers.{source-says, found-says}
 use Rattle.log.specs.Promises.{ChecksLength, ChecksContent, ChecksLog, FindsSource, TellsSource}
 use Rattle.log.specs.declared.source.Found.{Found}
 use Rattle.log.specs.declared.source.Found.the-variants.{At, None as NoneFound}
-use Rattle.log.specs.declared.source.Source.{Source}
-use Rattle.log.specs.declared.source.Source.the-variants.{Of, None, Refused as SourceRefused}
+use Rattle.log.specs.declared.source.Source.{Source as Told}
+use Rattle.log.specs.declared.source.SourceAnswer.{SourceAnswer}
+use Rattle.log.specs.declared.source.SourceAnswer.the-variants.{Of, None, Refused as SourceRefused}
 
--- what a source's answer holds: its transaction and one, or 0 for none
-abbrev said-source : Answer (Option ℕ) → ℕ
-said-source (gives (some t)) = suc t
-said-source (gives none) = 0
-said-source (refused n p) = 0
+-- what a source's answer holds: its transaction and its place, each with one added, or 0 for none
+abbrev said-transaction : Answer (Option Source) → ℕ
+said-transaction (gives (some s)) = suc (s .transaction)
+said-transaction (gives none) = 0
+said-transaction (refused n p) = 0
 
-pub same-source : (a b : Source) → source-says a ≡ source-says b → a ≡ b
-same-source (Of t) (Of u) e = let q : suc t ≡ suc u = ap said-source e in ap Of (omega arith)
-same-source (Of t) None e = let q : suc t ≡ 0 = ap said-source e in absurd (omega arith)
-same-source (Of t) (SourceRefused s) e = absurd (no-zero s (sym (ap said-number e)))
-same-source None (Of u) e = let q : 0 ≡ suc u = ap said-source e in absurd (omega arith)
+abbrev said-record : Answer (Option Source) → ℕ
+said-record (gives (some s)) = suc (s .place)
+said-record (gives none) = 0
+said-record (refused n p) = 0
+
+abbrev two : (t place : ℕ) → Told
+two t place = record { transaction = t; place = place }
+
+pub same-source : (a b : SourceAnswer) → source-says a ≡ source-says b → a ≡ b
+same-source (Of s) (Of t) e =
+    let q : suc (s .transaction) ≡ suc (t .transaction) = ap said-transaction e in
+    let r : suc (s .place) ≡ suc (t .place) = ap said-record e in
+    ap Of (ap₂ two (omega arith) (omega arith))
+same-source (Of s) None e = let q : suc (s .place) ≡ 0 = ap said-record e in absurd (omega arith)
+same-source (Of s) (SourceRefused r) e = absurd (no-zero r (sym (ap said-number e)))
+same-source None (Of t) e = let q : 0 ≡ suc (t .place) = ap said-record e in absurd (omega arith)
 same-source None None e = refl
 same-source None (SourceRefused s) e = absurd (no-zero s (sym (ap said-number e)))
-same-source (SourceRefused r) (Of u) e = absurd (no-zero r (ap said-number e))
+same-source (SourceRefused r) (Of t) e = absurd (no-zero r (ap said-number e))
 same-source (SourceRefused r) None e = absurd (no-zero r (ap said-number e))
 same-source (SourceRefused r) (SourceRefused s) e = ap SourceRefused (same-refusal r s (ap said-number e) (ap said-place e))
 
@@ -49,7 +62,7 @@ pub content-determined : (log : List ℕ) (a b : Checked) → ChecksContent log 
 content-determined log a b p q = same-checked a b (p ∙ sym q)
 
 -- THEOREM: any two answers that `source_of_record` promises for a log and a number are equal
-pub source-determined : (log : List ℕ) (k : ℕ) (a b : Source) → TellsSource log k a → TellsSource log k b → a ≡ b
+pub source-determined : (log : List ℕ) (k : ℕ) (a b : SourceAnswer) → TellsSource log k a → TellsSource log k b → a ≡ b
 source-determined log k a b p q = same-source a b (p ∙ sym q)
 
 -- THEOREM: any two answers that `source_record` promises for a log and a record are equal

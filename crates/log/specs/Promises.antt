@@ -11,7 +11,7 @@ use Rattle.rules.specs.Questions.{source-answer}
 use Rattle.rules.specs.Refusals.{length-answer, content-answer, check-answer}
 use Rattle.log.specs.Numbers.{found-says, source-says}
 use Rattle.log.specs.declared.source.Found.{Found}
-use Rattle.log.specs.declared.source.Source.{Source}
+use Rattle.log.specs.declared.source.SourceAnswer.{SourceAnswer}
 
 -- `length_answer`: numbers 1 and 2
 abbrev pub ChecksLength : List ℕ → Checked → Type 0
@@ -30,5 +30,5 @@ abbrev pub FindsSource : List ℕ → ℕ → Found → Type 0
 FindsSource log k answer = found-says answer ≡ source-record (history-of log) k
 
 -- `source_of_record`, of any number k
-abbrev pub TellsSource : List ℕ → ℕ → Source → Type 0
+abbrev pub TellsSource : List ℕ → ℕ → SourceAnswer → Type 0
 TellsSource log k answer = source-says answer ≡ source-answer log k

@@ -22,9 +22,15 @@ pub enum Found {
     None,
 }
 
-// The answer to the question: the transaction, none for a write or a commit, or a refusal.
-pub enum Source {
-    Of(u8),
+// The source of a read: the transaction, and the place of its write record.
+pub struct Source {
+    pub transaction: u8,
+    pub place: usize,
+}
+
+// The answer to the question: the source, none for a write or a commit, or a refusal.
+pub enum SourceAnswer {
+    Of(Source),
     None,
     Refused(Refusal),
 }
@@ -60,20 +66,23 @@ pub fn source_record(log: &[u8], k: usize) -> Found
     Found::None
 }
 
-// The transaction whose write record k reads. Any bytes and any number may be asked: the log is checked first, and then that it
-// has a record k.
-pub fn source_of_record(log: &[u8], k: usize) -> Source
+// The write that record k reads, by its transaction and its place. Any bytes and any number may be asked: the log is checked first, and
+// then that it has a record k.
+pub fn source_of_record(log: &[u8], k: usize) -> SourceAnswer
     ensures { λ r. ⌜ TellsSource (now (log .entry)) k r ⌝ }
 {
     match check(log) {
-        Checked::Refused(why) => Source::Refused(why),
+        Checked::Refused(why) => SourceAnswer::Refused(why),
         Checked::Passed => {
             if record_count(log) <= k {
-                return Source::Refused(Refusal::BadQuestion);
+                return SourceAnswer::Refused(Refusal::BadQuestion);
             }
             match source_record(log, k) {
-                Found::At(e) => Source::Of(record_at(log, e).transaction),
-                Found::None => Source::None,
+                Found::At(e) => SourceAnswer::Of(Source {
+                    transaction: record_at(log, e).transaction,
+                    place: e,
+                }),
+                Found::None => SourceAnswer::None,
             }
         }
     }

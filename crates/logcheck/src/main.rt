@@ -1,29 +1,23 @@
 // The release program: reads a log from standard input, and prints the verdict on it.
 //
 // It reads one byte past the limit, so that a log that is too long is refused as such and not judged by its front. Where the log cannot be
-// read, or the answer not be written, it says so on standard error: half a log could have another answer, so none is printed for it. A
-// call that a signal interrupts counts as one that failed. A Rattle program has no exit status of its own, so it is 0 in any case.
+// read, or the answer not be written, it says so on standard error, and prints no answer. A Rattle program has no exit status of its own, so
+// it is 0 in any case.
 ghost use lib.ListN.{length};
 ghost use mathlib.Core.Path.{_≡_};
-ghost use Rattle.logcheck.specs.Input.{Within};
 use format::record::MOST_BYTES;
 use libc::STDERR_FILENO;
-use libc::STDIN_FILENO;
 use libc::STDOUT_FILENO;
 use printing::put::TEXT;
+use reading::Input;
+use reading::read_input;
 use text::log_text;
 
 const ROOM: usize = MOST_BYTES + 1;
 
-// What reading comes to: so many bytes, up to the end of the input or of the room for it; or a read that failed.
-enum Input {
-    Bytes(usize),
-    Failed,
-}
-
 fn main() {
     let mut log = cleared();
-    match read_log(&mut log) {
+    match read_input(&mut log) {
         Input::Bytes(n) => print_answer(&log[..n]),
         Input::Failed => {
             io::write_all(STDERR_FILENO, b"logcheck: cannot read the log\n");
@@ -36,24 +30,6 @@ fn cleared() -> [u8; ROOM]
     ensures { λ r. ⌜ 16385 ≡ length r ⌝ }
 {
     [0; ROOM]
-}
-
-fn read_log(log: &mut [u8]) -> Input
-    ensures { λ r. ⌜ Within r (now (log .exit)) ⌝ }
-{
-    let mut n = 0;
-    while n < log.len() {
-        let got = libc::read(STDIN_FILENO, &mut log[n..]);
-        if got < 0 {
-            return Input::Failed;
-        }
-        let more = io::count(got, &log[n..]);
-        if more == 0 {
-            break;
-        }
-        n += more;
-    }
-    Input::Bytes(n)
 }
 
 fn print_answer(log: &[u8]) {

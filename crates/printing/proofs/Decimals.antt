@@ -55,6 +55,10 @@ pub byte-short : (n : ℕ) → n < 256 → length (decimal n) ≤ 3
 unfolding decimal
 byte-short n l = short-within (suc n) 2 n (omega (arith, l))
 
+-- a byte is a number of 64 bits
+pub byte-wide : {n : ℕ} → n < 256 → n < 2 ^ 64
+byte-wide l = omega (arith, l)
+
 -- as `io` says a digit
 glyph-is : (n : ℕ) → glyph (n % 10) ≡ digit (n % 10)
 unfolding digit

@@ -4,10 +4,12 @@ use native.Mathlib.Omega.{arith}
 use native.Mathlib.Numerals.{add-one}
 use mathlib.Core.Path.{_≡_, refl, sym, _∙_, ap, ap₂, subst}
 use mathlib.Core.List.{List, [], _∷_, _++_}
-use lib.ListN.{length, take, getD, set, length-append}
+use lib.ListN.{length, take, getD, set, replicate, length-append, length-replicate}
 use lib.Seq.{sets, length-sets, take-suc, length-take-le, take-length}
 use Rattle.lines.proofs.Lists.{sets-append}
+use Rattle.printing.specs.Lines.{text-room}
 use Rattle.printing.specs.Kept.{Put}
+use Rattle.printing.specs.Promises.{Prints}
 
 -- one more of the bytes is written
 pub byte-more : (bytes old : List ℕ) (at k : ℕ) → k < length bytes
@@ -48,5 +50,21 @@ pub put-is : {old new same xs : List ℕ} {at r q : ℕ} → same ≡ new → q 
 put-is e f p = record { written = e ∙ p .written; ends = f ∙ p .ends }
 
 -- what a buffer has room for is inside it, whatever has been put to its front
-pub still-inside : {left : List ℕ} (old bytes : List ℕ) (r room : ℕ) → left ≡ sets old 0 bytes → length old ≡ room → r ≤ room → r ≤ length left
+still-inside : {left : List ℕ} (old bytes : List ℕ) (r room : ℕ) → left ≡ sets old 0 bytes → length old ≡ room → r ≤ room → r ≤ length left
 still-inside {left} old bytes r room e whole l = omega (arith, l, whole, ap length e, length-sets old 0 bytes)
+
+-- a text that has been put to the front of a buffer with room for it
+pub whole : {old new text : List ℕ} {r : ℕ} (bytes : List ℕ) → text ≡ bytes → Put old 0 bytes new r → length bytes ≤ text-room
+    → Prints text old r new
+whole {old} {new} {text} {r} bytes e p l =
+    record { counted = omega (arith, p .ends, ap length e); leaves = p .written ∙ ap (sets old 0) (sym e); fits = omega (arith, p .ends, l) }
+
+-- what prints one text prints another that is the same
+pub prints-same : {old new bytes text : List ℕ} {r : ℕ} → bytes ≡ text → Prints bytes old r new → Prints text old r new
+prints-same {old} {new} {bytes} {text} {r} e p =
+    record { counted = p .counted ∙ ap length e; leaves = p .leaves ∙ ap (sets old 0) e; fits = p .fits }
+
+-- a text that was lent cleared has all the bytes that were printed to it
+pub printed-inside : {bytes new : List ℕ} {n : ℕ} → Prints bytes (replicate {A = ℕ} text-room 0) n new → n ≤ length new
+printed-inside {bytes} {new} {n} p =
+    still-inside (replicate {A = ℕ} text-room 0) bytes n text-room (p .leaves) (length-replicate {A = ℕ} text-room 0) (p .fits)

@@ -39,16 +39,17 @@ first-line word n = word ++ space ++ decimal n ++ newline
 unfoldable pub refusal-line : ℕ → ℕ → List ℕ
 refusal-line number place = refused-word ++ space ++ decimal number ++ space ++ decimal place ++ newline
 
--- the line of an answer record: "the transaction, a space and the reason for a cycle", "the transaction alone for a serial line"
-unfoldable pub record-line : (reasons : Bool) → ℕ → ℕ → List ℕ
-record-line true t reason = decimal t ++ space ++ decimal reason ++ newline
-record-line false t reason = decimal t ++ newline
+-- a line of two numbers and a space between them, or of the first alone
+unfoldable pub numbers-line : (both : Bool) → ℕ → ℕ → List ℕ
+numbers-line true first second = decimal first ++ space ++ decimal second ++ newline
+numbers-line false first second = decimal first ++ newline
 
--- "one line an answer record", for the first n records of an answer's bytes
+-- "one line an answer record: the transaction alone for a serial line, the transaction, a space and the reason for a cycle", for the first n
+-- records of an answer's bytes
 unfoldable pub record-lines : (reasons : Bool) → List ℕ → ℕ → List ℕ
 record-lines reasons answer zero = []
 record-lines reasons answer (suc k) =
-    record-lines reasons answer k ++ record-line reasons (entry answer (k * record-size)) (entry answer (k * record-size + 1))
+    record-lines reasons answer k ++ numbers-line reasons (entry answer (k * record-size)) (entry answer (k * record-size + 1))
 
 -- room for the longest first line: a refusal's word, two numbers of 20 digits, which hold any number of 64 bits, two spaces and the newline
 abbrev pub first-room : ℕ

@@ -3,7 +3,7 @@ ghost use Prim.Native.Nat.{_+_, _*_, _≤_};
 ghost use lib.ListN.{length};
 ghost use Rattle.rules.specs.Record.{transactions};
 ghost use Rattle.answers.specs.Verdict.{record-size};
-ghost use Rattle.printing.specs.Lines.{text-room, first-room, record-room, first-line, refusal-line, record-line, record-lines};
+ghost use Rattle.printing.specs.Lines.{text-room, first-room, record-room, first-line, refusal-line, numbers-line, record-lines};
 ghost use Rattle.printing.specs.Kept.{Put};
 use crate::put::TEXT;
 use crate::put::put_bytes;
@@ -33,15 +33,15 @@ pub fn put_refusal(number: u64, place: usize, text: &mut [u8; TEXT]) -> usize
     put_bytes(b"\n", text, at)
 }
 
-// The line of one record, with its reason where that is asked for.
-fn put_record(t: u8, reason: u8, reasons: bool, text: &mut [u8; TEXT], at: usize) -> usize
-    requires { ⌜ at + record-room ≤ text-room ⌝ }
-    ensures { λ r. ⌜ Put (now (text .entry)) at (record-line reasons t reason) (now (text .exit)) r ⌝ }
+// A line of two numbers, or of the first alone.
+pub fn put_numbers(first: u64, second: u64, both: bool, text: &mut [u8; TEXT], at: usize) -> usize
+    requires { ⌜ at + length (numbers-line both first second) ≤ text-room ⌝ }
+    ensures { λ r. ⌜ Put (now (text .entry)) at (numbers-line both first second) (now (text .exit)) r ⌝ }
 {
-    let mut at = put_decimal(t as u64, text, at);
-    if reasons {
+    let mut at = put_decimal(first, text, at);
+    if both {
         at = put_bytes(b" ", text, at);
-        at = put_decimal(reason as u64, text, at);
+        at = put_decimal(second, text, at);
     }
     put_bytes(b"\n", text, at)
 }
@@ -63,7 +63,7 @@ pub fn put_records(
     for k in 0..n {
         let t = answer[k * RECORD_SIZE];
         let reason = answer[k * RECORD_SIZE + 1];
-        at = put_record(t, reason, reasons, text, at);
+        at = put_numbers(t as u64, reason as u64, reasons, text, at);
     }
     at
 }

@@ -17,7 +17,7 @@ pub const TEXT: usize = FIRST_LINE + TRANSACTIONS * RECORD_LINE;
 // The most digits that a number of 64 bits has.
 const DIGITS: usize = 20;
 
-pub(crate) fn put_bytes(bytes: &[u8], text: &mut [u8; TEXT], at: usize) -> usize
+pub fn put_bytes(bytes: &[u8], text: &mut [u8; TEXT], at: usize) -> usize
     requires { ⌜ at + length (now bytes) ≤ text-room ⌝ }
     ensures { λ r. ⌜ Put (now (text .entry)) at (now (bytes .entry)) (now (text .exit)) r ⌝ }
 {

@@ -10,7 +10,7 @@ use Rattle.sets.specs.Bits.{set-of}
 use Rattle.sets.specs.Search.{some-below, some-from, first-below, last-below}
 use Rattle.histories.specs.History.{is-by, uses, uses-copy, writes-copy, writes-item, on-same-copy, conflicting}
 use Rattle.histories.specs.Earlier.{some-before, some-of, some-after, first-of, committed, wrote-copy, wrote-item, writes}
-use Rattle.histories.specs.Source.{shows, is-written, source-record, source}
+use Rattle.histories.specs.Source.{shows, is-written, source-record, write-record, source, writer-behind}
 use Rattle.histories.specs.Order.{comes-before, writer-after}
 use Rattle.histories.specs.Reasons.{gives-conflict, gives-write-order, gives-read-before}
 use Rattle.histories.specs.Reasons.{conflict, write-order, read-before, two-of-them, edge, reason}
@@ -112,8 +112,9 @@ lengths-told log = record { at-the-limit = λ e. rw e refl; past-it = λ e. rw e
 
 -- The questions, the graph's set, and the lent table.
 pub record AnswersTold : Type 0 where
-  -- "the last earlier write record on the same copy": r2[xB] has source 0; "none for a write or commit"
-  source-of-a-read : source-answer (w 0 x A (w 0 x B (c 0 (w 1 x A (c 1 (r 2 x B (c 2 []))))))) 5 ≡ gives (some 0)
+  -- "the last earlier write record on the same copy": r2[xB] has source 0 at record 1; "none for a write or commit"
+  source-of-a-read : source-answer (w 0 x A (w 0 x B (c 0 (w 1 x A (c 1 (r 2 x B (c 2 []))))))) 5
+      ≡ gives (some (record { transaction = 0; place = 1 }))
   source-of-a-commit : source-answer (c 7 []) 0 ≡ gives none
   -- "a question names a record at or past the end, or a transaction above 63"
   past-the-end : source-answer (c 7 []) 1 ≡ refused 10 0
@@ -132,7 +133,7 @@ pub record AnswersTold : Type 0 where
 
 pub answers-told : AnswersTold
 unfolding set-of some-below some-from first-below last-below is-by uses uses-copy writes-copy writes-item some-before some-of some-after
-    first-of committed wrote-copy wrote-item writes shows is-written source-record source comes-before writer-after on-same-copy
+    first-of committed wrote-copy wrote-item writes shows is-written source-record write-record source writer-behind comes-before writer-after on-same-copy
     conflicting gives-conflict gives-write-order gives-read-before conflict write-order read-before two-of-them edge reason
     after-commit reads-unwritten reads-past-own answer-of over kind transaction item site records read-kind write-kind commit-kind
     is-read is-write is-commit copy-number copy-of known-kind in-range named in-log too-long ragged never-commits first-record

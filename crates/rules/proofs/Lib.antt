@@ -8,4 +8,5 @@ pub mod Table
 pub mod PassedLogs
 pub mod Lengths
 pub mod Asked
+pub mod ToldSources
 pub mod Graphs

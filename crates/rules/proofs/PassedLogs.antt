@@ -11,9 +11,9 @@ use borrow.Author.Tests.{ltb-false, eqb-true, eq-eqb, not-false}
 use Rattle.sets.proofs.Searches.{some-found, some-hit}
 use Rattle.histories.specs.Earlier.{committed}
 use Rattle.histories.specs.Faults.{Faultless}
-use Rattle.histories.specs.Source.{shows, source}
+use Rattle.histories.specs.Source.{Source, shows, source}
 use Rattle.histories.specs.History.{writes-copy}
-use Rattle.histories.proofs.Sources.{sourced, source-record-of}
+use Rattle.histories.proofs.Sources.{sourced, source-exactly}
 use Rattle.histories.proofs.Faults.{commits-once, faultless-sound}
 use Rattle.rules.specs.Answer.{passed}
 use Rattle.rules.specs.Rows.{NoneOf}
@@ -59,13 +59,17 @@ module _ (log : List ℕ) where
   pub in-log-low : InLimits log → (t : ℕ) → in-log log t ≡ true → t < transactions
   in-log-low limits t b = let w = in-log-found t b in let q = w .own in omega (arith, limits (w .at) (w .there) .transaction-within, q)
 
-  -- THEOREM: the source of a record is a transaction below 64
-  pub source-low : InLimits log → (k t : ℕ) → k < records log → source (history-of log) k ≡ some t → t < transactions
-  source-low limits k t l q =
-      let s = source-record-of (history-of log) k t q in
-      let e = sourced (history-of log) k (s .at) (s .found) in
-      let own = s .own in
-      omega (arith, limits (s .at) (omega (arith, e .earlier, l)) .transaction-within, own)
+  -- THEOREM: the source of a record is a transaction below 64, and a record of the log
+  pub record LowSource (s : Source) : Type 0 where
+    pub of-a-transaction : s .transaction < transactions
+    pub at-a-record : s .place < records log
+
+  pub source-low : InLimits log → (k : ℕ) (s : Source) → k < records log → source (history-of log) k ≡ some s → LowSource s
+  source-low limits k s l q =
+      let n = source-exactly (history-of log) k s .0 q in
+      let there : s .place < records log = omega (arith, n .placed .earlier, l) in
+      let own = n .own in
+      record { of-a-transaction = omega (arith, limits (s .place) there .transaction-within, own); at-a-record = there }
 
   module _ (none-of : NoneOf (log-rows log)) where
     limits : InLimits log

@@ -7,7 +7,7 @@ use mathlib.Core.Bool.{_||_}
 use mathlib.Core.Option.{Option}
 use lib.Dec.{leb}
 use Rattle.sets.specs.Bits.{set-of, table-of}
-use Rattle.histories.specs.Source.{source}
+use Rattle.histories.specs.Source.{Source, source}
 use Rattle.histories.specs.Reasons.{edge, reason}
 use Rattle.rules.specs.Answer.{Answer, gives, refused, _then_}
 use Rattle.rules.specs.Rows.{Row, row, answer-of}
@@ -19,8 +19,8 @@ use Rattle.rules.specs.Refusals.{log-rows, check-answer}
 abbrev pub source-rows : List ℕ → ℕ → List Row
 source-rows log k = log-rows log ++ row 10 (leb (records log) k) 0 ∷ []
 
--- "Source of record k: the source, or none for a write or commit"
-unfoldable pub source-answer : List ℕ → ℕ → Answer (Option ℕ)
+-- "Source of record k: the source, or none for a write or commit"; the source has two numbers (document 02, A1)
+unfoldable pub source-answer : List ℕ → ℕ → Answer (Option Source)
 source-answer log k = answer-of (source-rows log k) then gives (source (history-of log) k)
 
 -- 10: "a question names .. a transaction above 63"

@@ -11,7 +11,7 @@ use mathlib.Core.Logic.{_⊎_, inl, inr, ⊎-elim, _↔_}
 use Rattle.sets.proofs.Truth.{clash, either}
 use Rattle.histories.specs.History.{History}
 use Rattle.histories.specs.Earlier.{wrote-item, writes, Writer}
-use Rattle.histories.specs.Source.{source}
+use Rattle.histories.specs.Source.{writer-behind}
 use Rattle.histories.specs.Chapter.{ReadsFrom}
 use Rattle.histories.specs.Sound.{Sound}
 use Rattle.histories.proofs.OfTransactions.{wrote-item-hit}
@@ -75,10 +75,10 @@ module _ (h : History) (line : List ℕ) (k : ℕ) where
 
     -- LAW: where none stands between, the run's writer is the source. A reader that wrote the item reads its own title (Lemma 8.1), any
     -- other the last one before it.
-    pub read-kept : NoneBetween s → source h k ≡ run-writer h line k
+    pub read-kept : NoneBetween s → writer-behind h k ≡ run-writer h line k
     read-kept f = ⊎-elim own other (either (wrote-item h reader title k))
       where
-        own : own-write → source h k ≡ run-writer h line k
+        own : own-write → writer-behind h k ≡ run-writer h line k
         own b = lemma-8-1 h sound (log-order-no-cycle h line o) k (r .counts) reads b ∙ sym (run-own b)
 
         before-source : (t : ℕ) → stands-before line t reader ≡ true → writes h t title ≡ true → Dec (t ≡ s)
@@ -87,7 +87,7 @@ module _ (h : History) (line : List ℕ) (k : ℕ) where
         before-source t b w (no d) =
             let part = sym (o .all-and-only t) ∙ stands-there line reader t (o .each-once) b in inr (f t (record { part = part; wrote = w }) d b)
 
-        other : no-own-write → source h k ≡ run-writer h line k
+        other : no-own-write → writer-behind h k ≡ run-writer h line k
         other b =
             let last : LastBefore (λ u. writes h u title) line (o .each-once) reader s = record {
               passes = source-writer .wrote;
@@ -97,7 +97,7 @@ module _ (h : History) (line : List ℕ) (k : ℕ) where
             r .from ∙ sym (last-before-is (λ u. writes h u title) line (o .each-once) reader s last) ∙ sym (run-other b)
 
     -- .. and back: the run's writer is the last one before the reader, or the reader itself
-    kept-none-between : source h k ≡ run-writer h line k → NoneBetween s
+    kept-none-between : writer-behind h k ≡ run-writer h line k → NoneBetween s
     kept-none-between q = ⊎-elim own other (either (wrote-item h reader title k))
       where
         on-one-copy : some s ≡ run-writer h line k
@@ -116,7 +116,7 @@ module _ (h : History) (line : List ℕ) (k : ℕ) where
             ⊎-elim (λ (e : t ≡ s). absurd (d e)) (λ (e : stands-before line t s ≡ true). e) (last .others t g (w .wrote))
 
     -- THEOREM: the read has the writer of a run on a single copy exactly where no other writer stands between
-    pub read-kept-exactly : (source h k ≡ run-writer h line k) ↔ NoneBetween s
+    pub read-kept-exactly : (writer-behind h k ≡ run-writer h line k) ↔ NoneBetween s
     read-kept-exactly = (kept-none-between, read-kept)
 
 -- So of a whole line, over the reads that count and are real.

@@ -8,7 +8,7 @@ use mathlib.Core.Option.{Option, some}
 use Rattle.sets.specs.Search.{last-below}
 use Rattle.histories.specs.Earlier.{Writer}
 use Rattle.histories.specs.History.{History, Counts, writes-copy, conflicting}
-use Rattle.histories.specs.Source.{source}
+use Rattle.histories.specs.Source.{writer-behind}
 use Rattle.histories.specs.Order.{comes-before}
 use Rattle.lines.specs.Rule.{among}
 use Rattle.lines.specs.Lines.{NoneTwice, stands-before, AtMost}
@@ -28,7 +28,7 @@ module _ (h : History) where
 
   -- "each read has the same writer as in a run of that line on a single copy"
   abbrev pub KeepsReads : List ℕ → Type 0
-  KeepsReads line = (k : ℕ) → Counts h k → h .is-read k ≡ true → h .real k ≡ true → source h k ≡ run-writer h line k
+  KeepsReads line = (k : ℕ) → Counts h k → h .is-read k ≡ true → h .real k ≡ true → writer-behind h k ≡ run-writer h line k
 
   -- "some line of all its transactions": all and only those that take part, each once; with the first condition,
   pub record InLogOrder (line : List ℕ) : Type 0 where

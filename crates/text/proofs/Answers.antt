@@ -18,7 +18,6 @@ use Rattle.printing.specs.Kept.{Put}
 use Rattle.printing.proofs.Lines.{first-short, lines-short, lines-same}
 use Rattle.text.specs.Text.{serial-word, cycle-word, printed-answer, printed-with, printed}
 use Rattle.text.specs.Kept.{Recorded, Lent}
-use Rattle.text.specs.Promises.{Prints}
 
 -- the text of each answer
 pub line-text : (n : ℕ) (answer : List ℕ) → printed-answer (gives (line n)) answer ≡ first-line serial-word n ++ record-lines false answer n
@@ -32,17 +31,6 @@ cycle-text n answer = refl
 pub refusal-text : (number place : ℕ) (answer : List ℕ) → printed-answer (refused number place) answer ≡ refusal-line number place
 unfolding printed-answer
 refusal-text number place answer = refl
-
--- a text that has been put to the front of a buffer with room for it
-pub whole : {old new text : List ℕ} {r : ℕ} (bytes : List ℕ) → text ≡ bytes → Put old 0 bytes new r → length bytes ≤ text-room
-    → Prints text old r new
-whole {old} {new} {text} {r} bytes e p l =
-    record { counted = omega (arith, p .ends, ap length e); leaves = p .written ∙ ap (sets old 0) (sym e); fits = omega (arith, p .ends, l) }
-
--- what prints one text prints another that is the same
-pub prints-same : {old new bytes text : List ℕ} {r : ℕ} → bytes ≡ text → Prints bytes old r new → Prints text old r new
-prints-same {old} {new} {bytes} {text} {r} e p =
-    record { counted = p .counted ∙ ap length e; leaves = p .leaves ∙ ap (sets old 0) e; fits = p .fits }
 
 -- a first line and the lines of the records behind it fit
 pub text-short : (word : List ℕ) (n : ℕ) (reasons : Bool) (answer : List ℕ) → length word ≤ 8 → Recorded n answer → ((i : ℕ) → entry answer i < 256)

@@ -9,11 +9,8 @@ use lib.Seq.{sets-eq, take-at}
 use Rattle.verdict.specs.declared.answer.Verdict.{Verdict}
 use Rattle.printing.specs.Lines.{text-room}
 use Rattle.text.specs.Text.{printed}
-use Rattle.text.specs.Promises.{Prints, PrintsAnswer, PrintsJudged, PrintsLog}
-
--- two that print the same bytes to the same text have the same length, and leave the same
-same-text : (bytes old left right : List ℕ) (r s : ℕ) → Prints bytes old r left → Prints bytes old s right → (r ≡ s) × (left ≡ right)
-same-text bytes old left right r s p q = (p .counted ∙ sym (q .counted), p .leaves ∙ sym (q .leaves))
+use Rattle.printing.proofs.Determined.{same-text}
+use Rattle.text.specs.Promises.{PrintsAnswer, PrintsJudged, PrintsLog}
 
 -- THEOREM: any two results of `answer_text` for a verdict and its records are equal, and so are the texts left
 pub answer-text-determined : (verdict : Verdict) (answer old left right : List ℕ) (r s : ℕ)

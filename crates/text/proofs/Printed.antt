@@ -4,7 +4,7 @@ use mathlib.Core.Path.{_≡_, ap, ap₂}
 use mathlib.Core.List.{List, [], _∷_}
 use Rattle.answers.specs.Marked.{MarkedLog, P2, marked-given}
 use Rattle.answers.proofs.Marked.{marked-hold}
-use Rattle.printing.specs.Lines.{digit, decimal-within, decimal, space, newline, refused-word, first-line, refusal-line, record-line, record-lines}
+use Rattle.printing.specs.Lines.{digit, decimal-within, decimal, space, newline, refused-word, first-line, refusal-line, numbers-line, record-lines}
 use Rattle.text.specs.Text.{serial-word, cycle-word, printed-answer, printed-with, printed}
 
 -- "cycle 2", "1 1", "2 3", with the newline behind each
@@ -24,6 +24,6 @@ printed-by-row p h = ap₂ printed-answer (ap (λ (q : MarkedLog). q .says) h) (
 
 -- THEOREM: "For the bytes of P2 below it prints exactly" these three lines
 pub P2-printed : printed (P2 .log) ≡ P2-lines
-unfolding digit decimal-within decimal space newline serial-word cycle-word refused-word first-line refusal-line record-line record-lines
+unfolding digit decimal-within decimal space newline serial-word cycle-word refused-word first-line refusal-line numbers-line record-lines
     printed-answer
 P2-printed = printed-by-row P2 (ap second marked-hold)

@@ -1,21 +1,13 @@
 -- What the functions that print promise, one definition each, of what was asked, what was lent, what was answered and what was left. The
 -- contract in src/ and the theorem that the answer is determined cite the same one.
-use Prim.Native.Nat.{ℕ, _≤_}
-use mathlib.Core.Path.{_≡_}
+use Prim.Native.Nat.{ℕ}
 use mathlib.Core.List.{List}
 use lib.ListN.{length}
-use lib.Seq.{sets}
 use Rattle.verdict.specs.Numbers.{verdict-says}
 use Rattle.answers.specs.Verdict.{LeavesRecords}
 use Rattle.verdict.specs.declared.answer.Verdict.{Verdict}
-use Rattle.printing.specs.Lines.{text-room}
+use Rattle.printing.specs.Promises.{Prints}
 use Rattle.text.specs.Text.{printed-answer, printed-with, printed}
-
--- these bytes stand in the front of a text that was lent, n is how many they are, there is room for them, and all other bytes keep their content
-pub record Prints (bytes old : List ℕ) (n : ℕ) (new : List ℕ) : Type 0 where
-  pub counted : n ≡ length bytes
-  pub leaves : new ≡ sets old 0 bytes
-  pub fits : n ≤ text-room
 
 -- `answer_text`, of a verdict and its records
 abbrev pub PrintsAnswer : Verdict → (answer old : List ℕ) → ℕ → List ℕ → Type 0

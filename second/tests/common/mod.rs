@@ -1,12 +1,18 @@
-//! What several tests share: the answer as lists.
+//! What several tests share: the answer as lists, and a source in short.
 #![allow(dead_code)]
 
 use second::check::Refusal;
 use second::named::Stated;
+use second::source::Source;
 use second::verdict::{verdict, Answer};
 
 /// The byte that fills a buffer before a verdict.
 pub const FILL: u8 = 0xA5;
+
+/// The source that is this transaction's write record at this place.
+pub fn at(transaction: u8, place: usize) -> Option<Source> {
+    Some(Source { transaction, place })
+}
 
 /// The verdict with its records, after a look at the bytes it must keep.
 pub fn full_answer(log: &[u8], buffer: usize) -> Stated {

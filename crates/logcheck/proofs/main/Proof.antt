@@ -1,10 +1,9 @@
 -- `logcheck::main` meets its contract: what was read is within its buffer.
 use Prim.Native.Nat.{_≤_}
-use mathlib.Core.Path.{sym, subst}
+use mathlib.Core.Path.{sym}
 use lib.ListN.{length}
 use lib.Seq.{length-take-le}
-use Rattle.logcheck.specs.Input.{Within}
-use Rattle.logcheck.specs.declared.Input.{Input}
+use Rattle.reading.proofs.Inside.{read-inside}
 use borrow.Author.Needs.{needs}
 use Rattle.logcheck.proofs.main.Statement.{statement}
 use Rattle.logcheck.proofs.main.Tie as tie
@@ -12,17 +11,17 @@ use Rattle.logcheck.proofs.main.Tie as tie
 cleared-requires : tie.Need-cleared-requires
 cleared-requires c κs = search needs
 
-slice-aggregate-read-log : tie.Need-slice-aggregate-read-log
-slice-aggregate-read-log c = search needs
+slice-aggregate-read-input : tie.Need-slice-aggregate-read-input
+slice-aggregate-read-input c = search needs
 
-read-log-requires : tie.Need-read-log-requires
-read-log-requires c κs = search needs
+read-input-requires : tie.Need-read-input-requires
+read-input-requires c κs = search needs
 
 enum-known-n : tie.Need-enum-known-n
 enum-known-n c = search needs
 
-inside : (c : tie.After-n) → c .n .given .0 .0 ≤ length (c .before .before .before .read-log .last .0)
-inside c = let e = c .before .before .before in subst (λ (i : Input). Within i (e .read-log .last .0)) (c .n .given .1) (e .read-log .ensures)
+inside : (c : tie.After-n) → c .n .given .0 .0 ≤ length (c .before .before .before .read-input .last .0)
+inside c = let e = c .before .before .before in read-inside (e .read-input .last .0) (e .read-input .ensures) (c .n .given .1)
 
 array-share-prefix-log : tie.Need-array-share-prefix-log
 array-share-prefix-log c = inside (c .before)
@@ -30,7 +29,7 @@ array-share-prefix-log c = inside (c .before)
 slice-aggregate-print-answer : tie.Need-slice-aggregate-print-answer
 slice-aggregate-print-answer c =
     let e = c .before .before in
-    sym (length-take-le (e .n .given .0 .0) (e .before .before .before .read-log .last .0) (inside e))
+    sym (length-take-le (e .n .given .0 .0) (e .before .before .before .read-input .last .0) (inside e))
 
 print-answer-requires : tie.Need-print-answer-requires
 print-answer-requires c κs = search needs
@@ -55,8 +54,8 @@ main-spec =
     tie.close
     (tie.spec
     cleared-requires
-    slice-aggregate-read-log
-    read-log-requires
+    slice-aggregate-read-input
+    read-input-requires
     enum-known-n
     array-share-prefix-log
     slice-aggregate-print-answer

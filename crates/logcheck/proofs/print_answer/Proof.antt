@@ -1,12 +1,9 @@
 -- `logcheck::print_answer` meets its contract: the text is within its buffer.
-use Prim.Native.Nat.{ℕ, _≤_}
+use Prim.Native.Nat.{_≤_}
 use mathlib.Core.Path.{sym}
-use lib.ListN.{length, replicate, length-replicate}
+use lib.ListN.{length}
 use lib.Seq.{length-take-le}
-use denote.Ref.{now}
-use Rattle.printing.specs.Lines.{text-room}
-use Rattle.printing.proofs.Puts.{still-inside}
-use Rattle.text.specs.Text.{printed}
+use Rattle.printing.proofs.Puts.{printed-inside}
 use borrow.Author.Needs.{needs}
 use Rattle.logcheck.proofs.print_answer.Statement.{statement}
 use Rattle.logcheck.proofs.print_answer.Tie as tie
@@ -15,10 +12,7 @@ log-text-requires : tie.Need-log-text-requires
 log-text-requires c κs = search needs
 
 inside : (c : tie.After-log-text) → c .log-text .result ≤ length (c .log-text .last .1 .0)
-inside c =
-    let said = c .log-text .ensures in
-    still-inside (replicate {A = ℕ} text-room 0) (printed (now (c .before .before .before .args .log))) (c .log-text .result) text-room
-    (said .leaves) (length-replicate {A = ℕ} text-room 0) (said .fits)
+inside c = printed-inside (c .log-text .ensures)
 
 array-share-prefix-text : tie.Need-array-share-prefix-text
 array-share-prefix-text c = inside c

@@ -1,7 +1,7 @@
 -- `text::answer_text` meets its contract: each case of the verdict has its own first line, and a line and a cycle have their records behind it.
 use Prim.Native.Nat.{ℕ, _≤_}
 use native.Mathlib.Omega.{arith}
-use mathlib.Core.Path.{_≡_, sym, _∙_, ap, ap₂, subst}
+use mathlib.Core.Path.{_≡_, _∙_, ap, subst}
 use mathlib.Core.Bool.{Bool, true, false}
 use mathlib.Core.List.{List, _++_}
 use lib.ListN.{length}
@@ -9,12 +9,12 @@ use denote.Ref.{now}
 use Rattle.refusals.specs.Numbers.{number-of, place-of}
 use Rattle.verdict.specs.Numbers.{verdict-says}
 use Rattle.verdict.specs.declared.answer.Verdict.{Verdict}
-use Rattle.printing.specs.Lines.{first-line, refusal-line, record-lines, text-room}
-use Rattle.printing.proofs.Lines.{refusal-short}
-use Rattle.printing.proofs.Puts.{put-then}
+use Rattle.printing.specs.Lines.{first-line, record-lines, text-room}
+use Rattle.printing.proofs.Lines.{refusal-whole}
+use Rattle.printing.proofs.Puts.{put-then, whole}
 use Rattle.text.specs.Text.{serial-word, cycle-word, printed-answer}
 use Rattle.text.specs.Kept.{Lent, Recorded}
-use Rattle.text.proofs.Answers.{line-text, cycle-text, refusal-text, whole, text-short}
+use Rattle.text.proofs.Answers.{line-text, cycle-text, refusal-text, text-short}
 use borrow.Author.Needs.{needs}
 use Rattle.text.proofs.answer_text.Statement.{statement}
 use Rattle.text.proofs.answer_text.Tie as tie
@@ -109,11 +109,8 @@ returns-3 c =
     let v = at-number .before .before in
     let s = v .before .before in
     let why = v .verdict3 .given .0 .0 in
-    let number = at-number .number .result in
-    let place = at-place .place .result in
-    let same = ap₂ refusal-line (sym (at-number .number .ensures)) (sym (at-place .place .ensures)) in
-    whole (refusal-line number place) (text-as s (v .verdict3 .given .1) ∙ refusal-text (number-of why) (place-of why) (answer-of s) ∙ same)
-    (c .put-refusal .ensures) (omega (arith, refusal-short number place (search needs) (search needs)))
+    refusal-whole (text-as s (v .verdict3 .given .1) ∙ refusal-text (number-of why) (place-of why) (answer-of s)) (at-number .number .ensures)
+    (at-place .place .ensures) (search needs) (search needs) (c .put-refusal .ensures)
 
 pub answer-text-spec : {M : Type 1} → statement M
 answer-text-spec =

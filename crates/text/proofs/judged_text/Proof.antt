@@ -9,9 +9,10 @@ use Rattle.rules.specs.Answer.{Answer}
 use Rattle.lines.specs.Rule.{LineOrCycle}
 use Rattle.verdict.specs.Numbers.{verdict-says}
 use Rattle.answers.specs.Verdict.{verdict-answer, answer-records}
+use Rattle.printing.proofs.Puts.{prints-same}
 use Rattle.text.specs.Text.{printed-answer, printed-with}
 use Rattle.text.specs.Kept.{Lent}
-use Rattle.text.proofs.Answers.{lent, judged, prints-same}
+use Rattle.text.proofs.Answers.{lent, judged}
 use borrow.Author.Needs.{needs}
 use Rattle.text.proofs.judged_text.Statement.{statement}
 use Rattle.text.proofs.judged_text.Tie as tie

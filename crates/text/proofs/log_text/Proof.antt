@@ -2,7 +2,8 @@
 use Prim.Native.Nat.{ℕ}
 use lib.ListN.{length, replicate, length-replicate}
 use denote.Ref.{now}
-use Rattle.text.proofs.Answers.{program, prints-same}
+use Rattle.printing.proofs.Puts.{prints-same}
+use Rattle.text.proofs.Answers.{program}
 use borrow.Author.Needs.{needs}
 use Rattle.text.proofs.log_text.Statement.{statement}
 use Rattle.text.proofs.log_text.Tie as tie

@@ -1,12 +1,9 @@
 -- `trial::print_answer` meets its contract: the text is within its buffer.
-use Prim.Native.Nat.{ℕ, _≤_}
+use Prim.Native.Nat.{_≤_}
 use mathlib.Core.Path.{sym}
-use lib.ListN.{length, replicate, length-replicate}
+use lib.ListN.{length}
 use lib.Seq.{length-take-le}
-use denote.Ref.{now}
-use Rattle.printing.specs.Lines.{text-room}
-use Rattle.printing.proofs.Puts.{still-inside}
-use Rattle.text.specs.Text.{printed-with}
+use Rattle.printing.proofs.Puts.{printed-inside}
 use borrow.Author.Needs.{needs}
 use Rattle.trial.proofs.print_answer.Statement.{statement}
 use Rattle.trial.proofs.print_answer.Tie as tie
@@ -15,11 +12,7 @@ judged-text-requires : tie.Need-judged-text-requires
 judged-text-requires c κs = search needs
 
 inside : (c : tie.After-judged-text) → c .judged-text .result ≤ length (c .judged-text .last .1 .1 .0)
-inside c =
-    let said = c .judged-text .ensures .prints in
-    let a = c .before .before .before .before .before .args in
-    still-inside (replicate {A = ℕ} text-room 0) (printed-with (length (now (a .answer))) (now (a .log))) (c .judged-text .result) text-room
-    (said .leaves) (length-replicate {A = ℕ} text-room 0) (said .fits)
+inside c = printed-inside (c .judged-text .ensures .prints)
 
 array-share-prefix-text : tie.Need-array-share-prefix-text
 array-share-prefix-text c = inside (c .before .before)

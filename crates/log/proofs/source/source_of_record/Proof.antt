@@ -4,10 +4,10 @@ use borrow.Author.Needs.{needs}
 use native.Mathlib.Omega.{arith}
 use mathlib.Core.Path.{_≡_, _∙_, sym, ap}
 use mathlib.Core.List.{List}
-use mathlib.Core.Option.{Option, some, none}
+use mathlib.Core.Option.{Option, some, none, Option·map}
 use Prim.Native.Nat.{ℕ, _<_}
 use denote.Ref.{now}
-use Rattle.histories.specs.Source.{source, its-transaction}
+use Rattle.histories.specs.Source.{source, write-record}
 use Rattle.histories.proofs.Sources.{sourced}
 use Rattle.rules.specs.Answer.{gives, passed}
 use Rattle.rules.specs.LogHistory.{history-of}
@@ -39,11 +39,11 @@ there c = rw (← c .before .record-count .ensures) (c .if1 .left)
 -- where the walk back has ended
 module _ (c : tie.After-source-record) where
   answered : (o : Option ℕ) → found-says (c .source-record .result) ≡ o
-      → gives (its-transaction (history-of (log (c .before .before .before))) o) ≡ source-answer (log (c .before .before .before)) (k (c .before .before .before))
+      → gives (Option·map (write-record (history-of (log (c .before .before .before)))) o) ≡ source-answer (log (c .before .before .before)) (k (c .before .before .before))
   unfolding source
   answered o e =
       let f = c .before .before .before in
-      ap (λ (x : Option ℕ). gives (its-transaction (history-of (log f)) x)) (sym e ∙ c .source-record .ensures) ∙ sym (asked (log f) (k f) (sound f) (there (c .before)))
+      ap (λ (x : Option ℕ). gives (Option·map (write-record (history-of (log f))) x)) (sym e ∙ c .source-record .ensures) ∙ sym (asked (log f) (k f) (sound f) (there (c .before)))
 
 check-requires : tie.Need-check-requires
 check-requires c κs = search needs
@@ -83,10 +83,11 @@ returns-2 c =
     sym (asked-refused (now (s .args .log)) (s .args .k) (sym (a .check .ensures) ∙ ap checked-says (c .before .why .given .1)))
 
 returns-3 : tie.Need-returns-3
+unfolding write-record
 returns-3 c =
     let e = c .before .before in
     let w = e .before .before in
-    ap (λ (t : ℕ). gives (some t)) (c .record-at .ensures .1) ∙ answered w (some (e .e .given .0 .0)) (ap found-says (e .e .given .1))
+    ap (λ (t : ℕ). gives (some (record { transaction = t; place = e .e .given .0 .0 }))) (c .record-at .ensures .1) ∙ answered w (some (e .e .given .0 .0)) (ap found-says (e .e .given .1))
 
 returns-4 : tie.Need-returns-4
 returns-4 c = answered (c .before .before) none (ap found-says (c .enum-told2 .given .1))

@@ -4,9 +4,11 @@ use Prim.Native.Nat.{ℕ, _+_, _*_, _-_, _<_, _≤_}
 use mathlib.Core.Path.{_≡_, subst}
 use lib.ListN.{length}
 use denote.Ref.{now}
+use Rattle.answers.specs.Verdict.{entry}
 use Rattle.printing.specs.Lines.{record-lines, text-room}
 use Rattle.printing.specs.Kept.{Put}
-use Rattle.printing.proofs.Lines.{lines-none, lines-more, lines-short}
+use Rattle.printing.proofs.Decimals.{byte-wide}
+use Rattle.printing.proofs.Lines.{lines-none, lines-more, lines-short, record-room-left}
 use Rattle.printing.proofs.Puts.{put-none, put-then, put-same}
 use Rattle.printing.proofs.line.put_records.Statement.{statement}
 use Rattle.printing.proofs.line.put_records.Tie as tie
@@ -31,6 +33,9 @@ module _ (c : tie.In-loop Inv-loop μ-loop) where
   inside : c .before .loop .k * 2 + 1 < length (now (known .before .args .answer))
   inside = omega (arith, c .loop-test .taken, known .before .pre .1 .0)
 
+  byte : (i : ℕ) → entry (now (known .before .args .answer)) i < 256
+  byte i = omega (arith, known .shared-slice-known .given i)
+
   room : c .before .loop .at + 8 ≤ text-room
   room =
       let a = known .before .args in
@@ -39,7 +44,7 @@ module _ (c : tie.In-loop Inv-loop μ-loop) where
         c .loop-test .taken,
         known .before .pre .1 .1,
         c .before .loop .inv .1 .ends,
-        lines-short (a .reasons) (now (a .answer)) (λ i. omega (arith, known .shared-slice-known .given i)) (c .before .loop .k),
+        lines-short (a .reasons) (now (a .answer)) byte (c .before .loop .k),
       )
 
 mul-t : tie.Need-mul-t Inv-loop μ-loop
@@ -57,8 +62,14 @@ add-reason c = omega (arith, low (c .before))
 shared-slice-read-reason : tie.Need-shared-slice-read-reason Inv-loop μ-loop
 shared-slice-read-reason c = inside (c .before .before)
 
-put-record-requires : tie.Need-put-record-requires Inv-loop μ-loop
-put-record-requires c κs = room (c .before .before .before)
+cast-put-numbers : tie.Need-cast-put-numbers Inv-loop μ-loop
+cast-put-numbers c = record { fits = byte-wide (byte (c .before .before) _) }
+
+cast-put-numbers-2 : tie.Need-cast-put-numbers-2 Inv-loop μ-loop
+cast-put-numbers-2 c = record { fits = byte-wide (byte (c .before .before) _) }
+
+put-numbers-requires : tie.Need-put-numbers-requires Inv-loop μ-loop
+put-numbers-requires c κs = let e = c .before .before .before in record-room-left _ _ _ _ (room e) (byte e _) (byte e _)
 
 add-k : tie.Need-add-k Inv-loop μ-loop
 add-k c = omega (arith, low (c .before .before .before .before))
@@ -71,7 +82,7 @@ loop-again c =
     let e = c .before .before .before .before in
     let l = e .before .loop in
     let a = (known e) .before .args in
-    (omega (arith, e .loop-test .taken), put-same (lines-more (a .reasons) (now (a .answer)) (l .k)) (put-then (l .inv .1) (c .put-record .ensures)))
+    (omega (arith, e .loop-test .taken), put-same (lines-more (a .reasons) (now (a .answer)) (l .k)) (put-then (l .inv .1) (c .put-numbers .ensures)))
 
 returns : tie.Need-returns Inv-loop μ-loop
 returns c =
@@ -92,7 +103,9 @@ put-records-spec =
     mul-reason
     add-reason
     shared-slice-read-reason
-    put-record-requires
+    cast-put-numbers
+    cast-put-numbers-2
+    put-numbers-requires
     add-k
     loop-less
     loop-again

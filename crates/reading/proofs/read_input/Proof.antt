@@ -1,16 +1,16 @@
--- `logcheck::read_log` meets its contract. The invariant: n is within the buffer, which keeps its length.
+-- `reading::read_input` meets its contract. The invariant: n is within the buffer, which keeps its length.
 use borrow.Author.Needs.{needs}
 use Prim.Native.Nat.{_-_, _≤_}
 use mathlib.Core.Path.{_≡_}
 use lib.ListN.{length}
-use Rattle.logcheck.proofs.read_log.Statement.{statement}
-use Rattle.logcheck.proofs.read_log.Tie as tie
+use Rattle.reading.proofs.read_input.Statement.{statement}
+use Rattle.reading.proofs.read_input.Tie as tie
 
 abbrev Inv-loop : tie.InvT-loop
-Inv-loop log₀ n₀ log n = (n ≤ length log) × (length log ≡ length log₀)
+Inv-loop buffer₀ n₀ buffer n = (n ≤ length buffer) × (length buffer ≡ length buffer₀)
 
 abbrev μ-loop : tie.MeasureT-loop
-μ-loop log₀ n₀ log n = length log - n
+μ-loop buffer₀ n₀ buffer n = length buffer - n
 
 loop-holds : tie.Need-loop-holds Inv-loop μ-loop
 loop-holds c = search needs
@@ -66,8 +66,8 @@ same-length-3 c = search needs
 returns-3 : tie.Need-returns-3 Inv-loop μ-loop
 returns-3 c = search needs
 
-pub read-log-spec : {M : Type 1} → statement M
-read-log-spec =
+pub read-input-spec : {M : Type 1} → statement M
+read-input-spec =
     tie.close
     (tie.spec
     Inv-loop
