@@ -11,18 +11,18 @@ use libc::STDOUT_FILENO;
 use printing::put::TEXT;
 use questions::asked::HEAD;
 use questions::asked::asked_text;
-use reading::Input;
 use reading::read_input;
 
 const ROOM: usize = HEAD + MOST_BYTES + 1;
 
 fn main() {
     let mut input = cleared();
-    match read_input(&mut input) {
-        Input::Bytes(n) => print_answer(&input[..n]),
-        Input::Failed => {
-            io::write_all(STDERR_FILENO, b"ask: cannot read the question\n");
-        }
+    let read = read_input(&mut input);
+    let n = read.count;
+    if read.failed {
+        io::write_all(STDERR_FILENO, b"ask: cannot read the question\n");
+    } else {
+        print_answer(&input[..n]);
     }
 }
 

@@ -9,7 +9,6 @@ use format::record::MOST_BYTES;
 use libc::STDERR_FILENO;
 use libc::STDOUT_FILENO;
 use printing::put::TEXT;
-use reading::Input;
 use reading::read_input;
 use text::log_text;
 
@@ -17,11 +16,12 @@ const ROOM: usize = MOST_BYTES + 1;
 
 fn main() {
     let mut log = cleared();
-    match read_input(&mut log) {
-        Input::Bytes(n) => print_answer(&log[..n]),
-        Input::Failed => {
-            io::write_all(STDERR_FILENO, b"logcheck: cannot read the log\n");
-        }
+    let input = read_input(&mut log);
+    let n = input.count;
+    if input.failed {
+        io::write_all(STDERR_FILENO, b"logcheck: cannot read the log\n");
+    } else {
+        print_answer(&log[..n]);
     }
 }
 

@@ -1,28 +1,27 @@
 // Standard input, read up to its end or to that of a buffer.
-ghost use Rattle.reading.specs.Input.{Within};
+ghost use Rattle.io.specs.Counts.{Counts};
 use libc::STDIN_FILENO;
 
-// What reading comes to: so many bytes, or a read that failed. Half an input could have another answer, so none is given for it. A call that
-// a signal interrupts counts as one that failed.
-pub enum Input {
-    Bytes(usize),
-    Failed,
+// What reading comes to: how many bytes were read, and whether the last read failed. Half an input could have another answer, so a caller
+// gives none then. A call that a signal interrupts counts as one that failed.
+pub struct Input {
+    pub count: usize,
+    pub failed: bool,
 }
 
 pub fn read_input(buffer: &mut [u8]) -> Input
-    ensures { λ r. ⌜ Within r (now (buffer .exit)) ⌝ }
+    ensures { λ r. ⌜ Counts (r .count) (now (buffer .exit)) ⌝ }
 {
-    let mut n = 0;
-    while n < buffer.len() {
-        let got = libc::read(STDIN_FILENO, &mut buffer[n..]);
-        if got < 0 {
-            return Input::Failed;
-        }
-        let more = io::count(got, &buffer[n..]);
+    let mut count = 0;
+    let mut failed = false;
+    while count < buffer.len() {
+        let got = libc::read(STDIN_FILENO, &mut buffer[count..]);
+        failed = got < 0;
+        let more = io::count(got, &buffer[count..]);
         if more == 0 {
             break;
         }
-        n += more;
+        count += more;
     }
-    Input::Bytes(n)
+    Input { count, failed }
 }

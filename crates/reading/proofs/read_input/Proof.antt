@@ -1,16 +1,22 @@
--- `reading::read_input` meets its contract. The invariant: n is within the buffer, which keeps its length.
+-- `reading::read_input` meets its contract. The invariant: the count is within the buffer, which keeps its length.
 use borrow.Author.Needs.{needs}
-use Prim.Native.Nat.{_-_, _≤_}
-use mathlib.Core.Path.{_≡_}
+use Prim.Native.Nat.{ℕ, _-_, _≤_}
+use mathlib.Core.Path.{_≡_, sym}
+use mathlib.Core.List.{List}
 use lib.ListN.{length}
+use lib.Seq.{length-take-le}
+use Rattle.io.specs.Counts.{Counts}
 use Rattle.reading.proofs.read_input.Statement.{statement}
 use Rattle.reading.proofs.read_input.Tie as tie
 
+counts : (n : ℕ) (xs : List ℕ) → n ≤ length xs → Counts n xs
+counts n xs l = (l, sym (length-take-le n xs l))
+
 abbrev Inv-loop : tie.InvT-loop
-Inv-loop buffer₀ n₀ buffer n = (n ≤ length buffer) × (length buffer ≡ length buffer₀)
+Inv-loop buffer₀ count₀ failed₀ buffer count failed = (count ≤ length buffer) × (length buffer ≡ length buffer₀)
 
 abbrev μ-loop : tie.MeasureT-loop
-μ-loop buffer₀ n₀ buffer n = length buffer - n
+μ-loop buffer₀ count₀ failed₀ buffer count failed = length buffer - count
 
 loop-holds : tie.Need-loop-holds Inv-loop μ-loop
 loop-holds c = search needs
@@ -27,12 +33,6 @@ part-read-end c = search needs
 read-requires : tie.Need-read-requires Inv-loop μ-loop
 read-requires c κs = search needs
 
-same-length : tie.Need-same-length Inv-loop μ-loop
-same-length c = search needs
-
-returns : tie.Need-returns Inv-loop μ-loop
-returns c = search needs
-
 sub-count : tie.Need-sub-count Inv-loop μ-loop
 sub-count c = search needs
 
@@ -45,8 +45,8 @@ part-count-end c = search needs
 count-requires : tie.Need-count-requires Inv-loop μ-loop
 count-requires c κs = search needs
 
-add-n : tie.Need-add-n Inv-loop μ-loop
-add-n c = search needs
+add-count : tie.Need-add-count Inv-loop μ-loop
+add-count c = search needs
 
 loop-less : tie.Need-loop-less Inv-loop μ-loop
 loop-less c = search needs
@@ -54,17 +54,17 @@ loop-less c = search needs
 loop-again : tie.Need-loop-again Inv-loop μ-loop
 loop-again c = search needs
 
+same-length : tie.Need-same-length Inv-loop μ-loop
+same-length c = search needs
+
+returns : tie.Need-returns Inv-loop μ-loop
+returns c = counts _ _ (search needs)
+
 same-length-2 : tie.Need-same-length-2 Inv-loop μ-loop
 same-length-2 c = search needs
 
 returns-2 : tie.Need-returns-2 Inv-loop μ-loop
-returns-2 c = search needs
-
-same-length-3 : tie.Need-same-length-3 Inv-loop μ-loop
-same-length-3 c = search needs
-
-returns-3 : tie.Need-returns-3 Inv-loop μ-loop
-returns-3 c = search needs
+returns-2 c = counts _ _ (search needs)
 
 pub read-input-spec : {M : Type 1} → statement M
 read-input-spec =
@@ -77,16 +77,14 @@ read-input-spec =
     part-read-start
     part-read-end
     read-requires
-    same-length
-    returns
     sub-count
     part-count-start
     part-count-end
     count-requires
-    add-n
+    add-count
     loop-less
     loop-again
+    same-length
+    returns
     same-length-2
-    returns-2
-    same-length-3
-    returns-3)
+    returns-2)
