@@ -60,7 +60,7 @@ static const struct known_log known_logs[] = {
     {"8 before 9", "w0[xA] w0[xB] c0 w1[xA] r1[xB]", REFUSED(8, 4)},
     {"9 for the lowest", "w5[xA] w4[xB] c4 w3[xC]", REFUSED(9, 3)},
 
-    /* The highest transaction is a source. 0 reads what 63 wrote: a conflict, so that 63 stands first. */
+    /* The highest transaction makes the write that is read. 0 reads what 63 wrote: a conflict, so that 63 stands first. */
     {"source 63", "w63[xA] c63 r0[xA] c0", SERIAL(2) = {63, 0, 0, 0}},
 
     /* For the place of a source: 0 makes every write, so that the transaction is the same whichever write is named. 1 reads what 0 wrote: a

@@ -31,7 +31,7 @@ pub struct Tables {
     /// The transactions in the order of their commits, and how many there are.
     pub order: Rows<u8, ROWS>,
     commits: usize,
-    /// The reads, as records with the source in place of the kind.
+    /// The reads, as records with the transaction of the source in place of the kind.
     pub reads: Rows<u32, RECORDS>,
 }
 

@@ -1,8 +1,8 @@
 // The program that answers a question about a log: reads the question and the log behind it from standard input, and prints the answer.
 //
 // `asked_text` says how a question stands in bytes. Of the log it reads one byte past the limit, as the release program does. Where the input
-// cannot be read, or has no whole question, or where the answer cannot be written, it says so on standard error, and prints no answer. Its
-// exit status is 0 in any case.
+// cannot be read or has no whole question, it says so on standard error and prints no answer. Where the answer cannot be written, it says so
+// too, and part of the answer may have been written. Its exit status is 0 in any case.
 ghost use lib.ListN.{length};
 ghost use mathlib.Core.Path.{_≡_};
 use format::record::MOST_BYTES;

@@ -23,7 +23,7 @@ coded value (refused n p) = coded-refusal n p
 abbrev pub passed-value : Unit {0} → ℕ
 passed-value u = 0
 
--- "none" in both numbers of a source: above every record, and so above every transaction (theorem `source-low`)
+-- "none" in both numbers of a source: above every record, and so above every transaction (theorem `none-alone`)
 abbrev pub none-number : ℕ
 none-number = most-records
 

@@ -81,7 +81,7 @@ pub extern "C" fn fruscalenta_check(log: &[u8]) -> Coded
     }
 }
 
-// The source of record k: its transaction and its place, or NONE for a write or a commit.
+// The source of record k: the transaction and the place of the write that it reads, or NONE in both for a write or a commit.
 #[no_mangle]
 pub extern "C" fn fruscalenta_source_of_record(log: &[u8], k: usize) -> CodedSource
     ensures { λ a. ⌜ TellsSourceInC (now (log .entry)) k a ⌝ }

@@ -128,13 +128,13 @@ written t place = some (record { transaction = t; place = place })
 
 pub record SourcesTold : Type 0 where
   -- "the last earlier write record on the same copy", and the error "taking the latest write of the item, at any site": r2[xB] of P2 has
-  -- source 0 at 1, though 1 has written x since, at A; and r1[yC] has source 0 at 2
+  -- source 0 at record 1, though transaction 1 has written x since, at A; and r1[yC] has source 0 at record 2
   on-the-copy : source (plain P2) 7 ≡ written 0 1
   of-another-item : source (plain P2) 4 ≡ written 0 2
   -- "two reads of one item with different sources": before w1[xA] the source is 0, after it 1, "the reader itself"
   before-the-write : source (plain two-reads) 2 ≡ written 0 0
   after-the-write : source (plain two-reads) 4 ≡ written 1 3
-  -- "the last earlier write record": of two by one transaction it is the later, and none that stands behind the read
+  -- "the last earlier write record": of two by one transaction it is the later, and none that stands after the read
   written-again : source (plain (w 0 x A ∷ w 0 x A ∷ r 1 x A ∷ w 0 x A ∷ [])) 2 ≡ written 0 1
   -- "none for a write or commit"
   of-a-write : source (plain two-reads) 3 ≡ none

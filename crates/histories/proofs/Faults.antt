@@ -56,7 +56,8 @@ module _ (h : History) where
     its-source : (k : ℕ) → Counts h k → h .is-read k ≡ true → HasSource h k
     its-source k c r =
         let s = written-sourced h k r (read-written k (w .no-7 k (c .there)) r) in
-        record { origin = h .transaction (s .at); from = writer-of h k (s .at) (s .found); part = w .source-part k (s .at) c (s .found) }
+        let from = writer-of h k (s .at) (s .found) in
+        record { origin = h .transaction (s .at); from = from; part = w .source-part k (h .transaction (s .at)) c from }
 
     -- THEOREM: a history without faults is sound
     pub faultless-sound : Sound h

@@ -9,7 +9,7 @@ use Rattle.histories.specs.History.{History, conflicting}
 use Rattle.histories.specs.Earlier.{writes}
 use Rattle.histories.specs.Source.{source-record, writer-behind}
 use Rattle.histories.specs.Order.{writer-after}
-use Rattle.histories.specs.Reasons.{of-source, gives-conflict, gives-write-order, gives-read-before, conflict, write-order, read-before}
+use Rattle.histories.specs.Reasons.{of-writer, gives-conflict, gives-write-order, gives-read-before, conflict, write-order, read-before}
 use Rattle.histories.proofs.OfTransactions.{of-found, of-hit, after-found, writes-hit}
 use Rattle.histories.proofs.Sources.{writer-of, writer-none}
 use Rattle.histories.proofs.Orders.{WriterAfter, writer-after-found, writer-after-hit}

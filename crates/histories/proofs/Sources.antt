@@ -84,12 +84,13 @@ module _ (h : History) (k : ℕ) where
       go none q b = let z : _≡_ {A = ℕ} 0 1 = cc in absurd (omega arith)
       go (some e) q b = let same : h .transaction e ≡ t = cc in record { at = e; found = q; own = same }
 
-  -- THEOREM: two numbers are the source exactly where the second is the place of the last write of the copy before the read, with none
-  -- between, and the first is the transaction of that write
+  -- what the two numbers of a source say
   pub record Named (s : Source) : Type 0 where
     pub placed : Sourced (s .place)
     pub own : h .transaction (s .place) ≡ s .transaction
 
+  -- THEOREM: two numbers are the source of k exactly where k is a read, the second is the place of the last earlier write of its copy that k
+  -- does not pass over, and the first is the transaction of that write
   pub source-exactly : (s : Source) → (source h k ≡ some s) ↔ Named s
   unfolding write-record source
   source-exactly s = (go (source-record h k) refl, back)

@@ -16,7 +16,7 @@ module _ (h : History) where
   unfoldable pub serialization-edge : ℕ → ℕ → Bool
   serialization-edge i j = two-of-them h i j && conflict h i j
 
-  -- "T_j reads-x-from T_i", at record e: it is a real read of x by j, which takes part, and its source is i
+  -- "T_j reads-x-from T_i", at record e: it is a real read of x by j, which takes part, and the writer behind it is i
   pub record ReadsFrom (x j i e : ℕ) : Type 0 where
     pub counts : Counts h e
     pub its-own : h .transaction e ≡ j

@@ -6,7 +6,7 @@ use mathlib.Core.Bool.{Bool, true, false, not, _&&_}
 use mathlib.Core.Option.{some}
 use Rattle.histories.specs.History.{History, Counts, uses, writes-copy}
 use Rattle.histories.specs.Earlier.{committed, wrote-copy, wrote-item}
-use Rattle.histories.specs.Source.{is-written, source-record}
+use Rattle.histories.specs.Source.{is-written, writer-behind}
 
 module _ (h : History) where
   -- 6: "the transaction has committed earlier"
@@ -41,6 +41,6 @@ module _ (h : History) where
     pub no-8 : (k : ℕ) → k < h .size → reads-past-own k ≡ false
     -- who takes part has committed
     pub has-committed : (t : ℕ) → h .takes-part t ≡ true → committed h t (h .size) ≡ true
-    -- the source of a read that counts takes part
-    pub source-part : (k e : ℕ) → Counts h k → source-record h k ≡ some e → h .takes-part (h .transaction e) ≡ true
+    -- the writer behind a read that counts takes part
+    pub source-part : (k t : ℕ) → Counts h k → writer-behind h k ≡ some t → h .takes-part t ≡ true
     pub of-copies : PlainCopies

@@ -9,10 +9,10 @@ use Rattle.histories.specs.Earlier.{some-of, some-after}
 use Rattle.histories.specs.Source.{writer-behind}
 use Rattle.histories.specs.Order.{writer-after}
 
--- a source, where there is one, passes the test
-abbrev pub of-source : Option ℕ → (ℕ → Bool) → Bool
-of-source (some s) p = p s
-of-source none p = false
+-- the writer behind a read, where there is one, passes the test
+abbrev pub of-writer : Option ℕ → (ℕ → Bool) → Bool
+of-writer (some s) p = p s
+of-writer none p = false
 
 -- "the lowest number that applies" of 1, 2 and 3, by which of them do; 0 where none does
 abbrev pub lowest-reason : Bool → Bool → Bool → ℕ
@@ -28,9 +28,10 @@ module _ (h : History) where
   unfoldable pub gives-write-order : ℕ → ℕ → Bool
   gives-write-order e j = h .is-write e && writer-after h (h .item e) (h .transaction e) j
 
-  -- 3. "i has a read of some item with source s, j writes that item, j is not s, and s comes before j in the write order"
+  -- 3. "i has a read of some item with source s, j writes that item, j is not s, and s comes before j in the write order"; of the two numbers
+  -- of the source, s is the transaction
   unfoldable pub gives-read-before : ℕ → ℕ → Bool
-  gives-read-before e j = h .real e && of-source (writer-behind h e) (λ s. writer-after h (h .item e) s j)
+  gives-read-before e j = h .real e && of-writer (writer-behind h e) (λ s. writer-after h (h .item e) s j)
 
   -- the three reasons
   unfoldable pub conflict : ℕ → ℕ → Bool

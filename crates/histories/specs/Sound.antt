@@ -14,7 +14,7 @@ module _ (h : History) where
     pub at : ℕ
     pub first : first-of h t (h .is-commit) ≡ some at
 
-  -- the read k has a source, and it takes part
+  -- the read k has a source, whose transaction takes part
   pub record HasSource (k : ℕ) : Type 0 where
     pub origin : ℕ
     pub from : writer-behind h k ≡ some origin
@@ -23,7 +23,7 @@ module _ (h : History) where
   pub record Sound : Type 0 where
     -- who takes part commits
     pub commits : (t : ℕ) → h .takes-part t ≡ true → Commits t
-    -- each read that counts has a source, which takes part
+    -- each read that counts has a source, whose transaction takes part
     pub has-source : (k : ℕ) → Counts h k → h .is-read k ≡ true → HasSource k
     pub of-copies : PlainCopies h
     -- who has written an item reads only copies that it wrote

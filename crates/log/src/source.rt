@@ -47,7 +47,8 @@ fn writes_copy_of(log: &[u8], e: usize, k: usize) -> bool
     kind_at(log, e) == WRITE
 }
 
-// In a log within the limits, the last write of record k's copy before it; none where k is no read. Walks back over the records between.
+// In a log within the limits, the last write of record k's copy before it; none where k is no read, or where no earlier record
+// writes its copy. Walks back over the records between.
 pub fn source_record(log: &[u8], k: usize) -> Found
     requires { ⌜ InLimits (now log) ⌝ }
     requires { ⌜ k < records (now log) ⌝ }

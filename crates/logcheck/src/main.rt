@@ -1,8 +1,8 @@
 // The release program: reads a log from standard input, and prints the verdict on it.
 //
 // It reads one byte past the limit, so that a log that is too long is refused as such and not judged by its front. Where the log cannot be
-// read, or the answer not be written, it says so on standard error, and prints no answer. A Rattle program has no exit status of its own, so
-// it is 0 in any case.
+// read, it says so on standard error and prints no answer. Where the answer cannot be written, it says so too, and part of the answer may have
+// been written. A Rattle program has no exit status of its own, so it is 0 in any case.
 ghost use lib.ListN.{length};
 ghost use mathlib.Core.Path.{_≡_};
 use format::record::MOST_BYTES;

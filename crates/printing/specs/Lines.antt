@@ -1,4 +1,5 @@
--- The lines that the program of document 01 prints, in ASCII, with their numbers in decimal; and the room for them.
+-- The lines that the programs print, those of document 01 and those of the two questions, in ASCII, with their numbers in decimal; and the room
+-- for them.
 use Prim.Native.Nat.{ℕ, zero, suc, _+_, _*_, _/_, _%_}
 use mathlib.Core.Bool.{Bool, true, false, cond}
 use mathlib.Core.List.{List, [], _∷_, _++_}

@@ -1,4 +1,4 @@
-// The lines of an answer: the first, and one for each answer record.
+// The lines of an answer: the first, one for each answer record, and a line of numbers.
 ghost use Prim.Native.Nat.{_+_, _*_, _≤_};
 ghost use lib.ListN.{length};
 ghost use Rattle.rules.specs.Record.{transactions};

@@ -1,5 +1,6 @@
 -- A question in bytes with its log behind it, as the program `ask` reads them, and what is printed for it. Byte 0 says which question it is. Bytes
--- 1 and 2 are the record, or the transaction that the edge leads from, bytes 3 and 4 the transaction that it leads to. The log follows.
+-- 1 and 2 are the record, or the transaction that the edge leads from. Bytes 3 and 4 are the transaction that the edge leads to; in a question
+-- about a source nothing looks at them. The log follows.
 use Prim.Native.Nat.{ℕ, _+_, _*_}
 use mathlib.Core.Bool.{cond}
 use mathlib.Core.List.{List, []}

@@ -22,7 +22,7 @@ fn number_at(input: &[u8], at: usize) -> usize
     input[at] as usize + input[at + 1] as usize * 256
 }
 
-// The text of the answer, and how many bytes it has: none where the question is not whole.
+// The text of the answer, and how many bytes it has, 0 where the question is not whole.
 pub fn asked_text(input: &[u8], text: &mut [u8; TEXT]) -> usize
     ensures { λ r. ⌜ PrintsAsked (now (input .entry)) (now (text .entry)) r (now (text .exit)) ⌝ }
 {

@@ -9,7 +9,7 @@ use printing::line::put_refusal;
 use printing::put::TEXT;
 use printing::put::put_bytes;
 
-// The source of record k: its transaction and the place of its write record, none for a write or a commit, or a refusal.
+// The source of record k: the transaction and the place of the write that it reads; none for a write or a commit; or a refusal.
 pub fn source_text(log: &[u8], k: usize, text: &mut [u8; TEXT]) -> usize
     ensures { λ r. ⌜ PrintsSource (now (log .entry)) k (now (text .entry)) r (now (text .exit)) ⌝ }
 {

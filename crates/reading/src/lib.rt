@@ -2,8 +2,8 @@
 ghost use Rattle.io.specs.Counts.{Counts};
 use libc::STDIN_FILENO;
 
-// What reading comes to: how many bytes were read, and whether the last read failed. Half an input could have another answer, so a caller
-// gives none then. A call that a signal interrupts counts as one that failed.
+// What reading comes to: how many bytes were read, and whether the last read failed. A caller then gives no
+// answer, since half an input could have another. A call that a signal interrupts counts as one that failed.
 pub struct Input {
     pub count: usize,
     pub failed: bool,

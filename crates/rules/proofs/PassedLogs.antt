@@ -11,9 +11,9 @@ use borrow.Author.Tests.{ltb-false, eqb-true, eq-eqb, not-false}
 use Rattle.sets.proofs.Searches.{some-found, some-hit}
 use Rattle.histories.specs.Earlier.{committed}
 use Rattle.histories.specs.Faults.{Faultless}
-use Rattle.histories.specs.Source.{Source, shows, source}
-use Rattle.histories.specs.History.{writes-copy}
-use Rattle.histories.proofs.Sources.{sourced, source-exactly}
+use Rattle.histories.specs.Source.{Source, shows, source, writer-behind}
+use Rattle.histories.specs.History.{Counts, writes-copy}
+use Rattle.histories.proofs.Sources.{sourced, source-record-of, source-exactly}
 use Rattle.histories.proofs.Faults.{commits-once, faultless-sound}
 use Rattle.rules.specs.Answer.{passed}
 use Rattle.rules.specs.Rows.{NoneOf}
@@ -59,7 +59,7 @@ module _ (log : List ℕ) where
   pub in-log-low : InLimits log → (t : ℕ) → in-log log t ≡ true → t < transactions
   in-log-low limits t b = let w = in-log-found t b in let q = w .own in omega (arith, limits (w .at) (w .there) .transaction-within, q)
 
-  -- THEOREM: the source of a record is a transaction below 64, and a record of the log
+  -- THEOREM: the source of a record has a transaction below 64, and the place of a record of the log
   pub record LowSource (s : Source) : Type 0 where
     pub of-a-transaction : s .transaction < transactions
     pub at-a-record : s .place < records log
@@ -80,6 +80,12 @@ module _ (log : List ℕ) where
     unfolding never-commits
     has-committed t b = not-false (committed (history-of log) t (records log)) (rw b at (no-9 log none-of t (in-log-low limits t b)))
 
+    -- a source is a record of the log, and so its transaction takes part
+    writers-part : (k t : ℕ) → Counts (history-of log) k → writer-behind (history-of log) k ≡ some t → in-log log t ≡ true
+    writers-part k t c q =
+        let s = source-record-of (history-of log) k t q in
+        in-log-hit t (s .at) (omega (arith, sourced (history-of log) k (s .at) (s .found) .earlier, c .there)) (s .own)
+
     faultless-log : Faultless (history-of log)
     faultless-log =
         record {
@@ -87,7 +93,7 @@ module _ (log : List ℕ) where
           no-7 = no-7 log none-of;
           no-8 = no-8 log none-of;
           has-committed = has-committed;
-          source-part = λ k e c q. all-part e (omega (arith, sourced (history-of log) k e q .earlier, c .there));
+          source-part = writers-part;
           of-copies = record { none-passed = λ e k l c r p w. refl; one-item = λ e k l m u v q. same-copy e k (limits e l) (limits k m) q .0 };
         }
 

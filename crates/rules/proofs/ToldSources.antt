@@ -14,13 +14,13 @@ use Rattle.histories.proofs.OfTransactions.{writes-copy-found, writes-copy-hit}
 use Rattle.histories.proofs.Sources.{Named, source-exactly, source-of, source-absent, source-other, source-record-of}
 use Rattle.rules.specs.Answer.{gives}
 use Rattle.rules.specs.Rows.{NoneOf, row}
-use Rattle.rules.specs.Record.{transaction, item, site, copy-of, copy-number, records, is-read, is-write}
+use Rattle.rules.specs.Record.{transactions, most-records, transaction, item, site, copy-of, copy-number, records, is-read, is-write}
 use Rattle.rules.specs.LogHistory.{history-of}
 use Rattle.rules.specs.Refusals.{log-rows}
 use Rattle.rules.specs.Passes.{Passes}
 use Rattle.rules.specs.Questions.{source-rows, source-answer}
 use Rattle.rules.proofs.Rows.{gives-exactly, none-left, none-right, none-here}
-use Rattle.rules.proofs.PassedLogs.{none-passes, shows-all, same-copy, all-part}
+use Rattle.rules.proofs.PassedLogs.{none-passes, source-low, shows-all, same-copy, all-part}
 
 module _ (log : List ℕ) (k : ℕ) where
   -- record e writes the copy that record k names: the same item at the same site
@@ -102,6 +102,18 @@ module _ (log : List ℕ) (k : ℕ) where
         λ e. let w = given .0 e in (w .0, behind (w .0) s (exactly .0 (w .1))),
         λ w. given .1 (w .0, exactly .1 (is-named (w .0) s (w .1))),
       )
+
+  -- THEOREM: no transaction and no record that is answered is above the limits of document 01
+  pub record BelowLimits (s : Source) : Type 0 where
+    pub transaction-below : s .transaction < transactions
+    pub place-below : s .place < most-records
+
+  pub told-below : (s : Source) → source-answer log k ≡ gives (some s) → BelowLimits s
+  unfolding source-answer
+  told-below s e =
+      let w = gives-exactly (source-rows log k) (source (history-of log) k) (some s) .0 e in
+      let low = source-low log (passes (w .0) .in-limits) k s (there (w .0)) (w .1) in
+      record { transaction-below = low .of-a-transaction; place-below = omega (arith, low .at-a-record, passes (w .0) .few) }
 
   -- THEOREM: none is answered exactly where no row applies and record k is no read
   pub told-none-exactly : (source-answer log k ≡ gives none) ↔ NoneOf (source-rows log k) × (is-read log k ≡ false)
