@@ -1,11 +1,11 @@
 #!/bin/bash
-# Tries how ./logcheck builds its program: several first uses at once, builds that were killed, and builds that cannot be. It prints a line
-# for each failure, and `N passed, M failed` at the end.
+# Tries how ./logcheck builds its programs, `logcheck` for verdicts and `ask` for questions: several first uses at once, builds that were
+# killed, and builds that cannot be. It prints a line for each failure, and `N passed, M failed` at the end.
 #
 # A real build takes minutes, so it is tried in a small checkout with a stand-in for rt, which does what matters here as the kit's rt does:
 # it writes the program in two parts, cannot use what a killed build left, does nothing where nothing changed, and has a long report where
 # it fails. It waits where it is told to, so that no check hangs on a time. A stand-in for uname says that this machine is x86-64, since
-# the program that it builds is a script.
+# the programs that it builds are scripts: `logcheck` always has the empty log's verdict, and `ask` sees only whether a log has bytes.
 . "$(dirname "$0")/checks.sh"
 from=$PWD
 checkout="$room/a checkout"
@@ -15,6 +15,8 @@ export PATH=$tools:$PATH
 chmod 755 "$room"
 mkdir "$tools"
 printf 'serial 0\n' >"$room/empty"
+printf 'refused 10 0\n' >"$room/no-record"
+printf 'none\n' >"$room/a-record"
 
 # ---- the stand-ins
 
@@ -30,42 +32,56 @@ echo "$@" >>"$CONTROL/calls"
 if [ -e "$CONTROL/fails" ]; then seq -f 'fault %g of a long report' 30 >&2; exit "$(cat "$CONTROL/fails")"; fi
 [ -w "${TMPDIR:-/tmp}" ] || exit 2
 mkdir -p target/rlib target/stamp target/log target/bin
-cat crates.txt crates/*/src/* >target/sources
-if cmp -s target/sources target/stamp/logcheck; then exit 0; fi
+for crate in $(sed -n "s/^$2://p" crates.txt) "$2"; do cat "crates/$crate/src/"*; done 2>/dev/null | cat crates.txt - >target/sources
+if cmp -s target/sources "target/stamp/$2"; then exit 0; fi
 if [ -e target/rlib/half ]; then echo "the rlib is not as it was written"; exit 2; fi
 echo proved >target/log/sets.res
-echo failed >target/log/logcheck.res
+echo failed >"target/log/$2.res"
 touch target/rlib/half
-printf '#!/bin/sh\ncat >/dev/null\n' >target/bin/logcheck
+printf '#!/bin/sh\nbytes=$(wc -c)\n' >"target/bin/$2"
 touch "$CONTROL/began"
 while [ -e "$CONTROL/holds" ]; do sleep 0.1; done
-echo "echo 'serial 0'" >>target/bin/logcheck
-chmod +x target/bin/logcheck
+case $2 in
+logcheck) echo 'echo serial 0' ;;
+ask) echo 'if [ "$bytes" -gt 5 ]; then echo none; else echo refused 10 0; fi' ;;
+esac >>"target/bin/$2"
+chmod +x "target/bin/$2"
 rm target/rlib/half
-cp target/sources target/stamp/logcheck
+cp target/sources "target/stamp/$2"
 END
 
 # A checkout that was never used, and stand-ins that do what they should.
 new_checkout() {
     rm -rf "$checkout" "$CONTROL"
-    mkdir -p "$checkout/scripts" "$checkout/crates/"{logcheck,sets}/src "$CONTROL"
+    mkdir -p "$checkout/scripts" "$checkout/crates/"{logcheck,ask,questions,sets}/src "$CONTROL"
     echo first >"$checkout/crates/sets/src/lib.rt"
     cp -p "$from/logcheck" "$from/VERSION" "$checkout"
     cp -p "$from"/scripts/* "$checkout/scripts"
-    printf 'sets:\nlogcheck: sets io\n' >"$checkout/crates.txt"
+    printf 'sets:\nquestions:\nlogcheck: sets io\nask: sets questions io\n' >"$checkout/crates.txt"
+    echo first >"$checkout/crates/questions/src/lib.rt"
     echo first >"$checkout/crates/logcheck/src/main.rt"
+    echo first >"$checkout/crates/ask/src/main.rt"
     echo x86_64 >"$CONTROL/machine"
     : >"$CONTROL/calls"
 }
 
 # ---- callers
 
-logcheck() { "$checkout/logcheck" </dev/null; }
+logcheck() { "$checkout/logcheck" "$@" </dev/null; }
+piped() { echo log | "$checkout/logcheck" "$@"; }
 
 # Starts a use in the background, in a group of its own, and sets `use` to its process. What it says is in the room, as out.NAME and err.NAME.
-start() { # NAME
-    setsid "$checkout/logcheck" </dev/null >"$room/out.$1" 2>"$room/err.$1" &
+start() { # NAME [QUESTION]
+    setsid "$checkout/logcheck" "${@:2}" </dev/null >"$room/out.$1" 2>"$room/err.$1" &
     use=$!
+}
+
+# Waits for the end of a use that was started, and keeps what `run` keeps.
+ended() { # NAME PROCESS
+    wait "$2"
+    status=$?
+    cp "$room/out.$1" "$room/out"
+    cp "$room/err.$1" "$room/err"
 }
 
 # Waits until a command succeeds; a minute is for ever here.
@@ -81,13 +97,22 @@ until_true() { # COMMAND ..
 lines() { [ "$(wc -l <"$2")" -eq "$1" ]; } # NUMBER FILE
 
 # rt was called so many times, and the use that `run` kept has the answer, with these words on standard error, a line for each.
-built() { # WHAT CALLS WORDS ..
-    local what=$1 calls=$2 words result
-    shift 2
-    [ "$status" -eq 0 ] && cmp -s "$room/empty" "$room/out" && lines "$calls" "$CONTROL/calls" && lines $# "$room/err"
+built_for() { # ANSWER-FILE WHAT CALLS WORDS ..
+    local answer=$1 what=$2 calls=$3 words result
+    shift 3
+    [ "$status" = "$(status_of "$answer")" ] && cmp -s "$answer" "$room/out" && lines "$calls" "$CONTROL/calls" && lines $# "$room/err"
     result=$?
     for words; do has "$words" "$room/err" || result=1; done
     judged "$what, with $(wc -l <"$CONTROL/calls") calls of rt" "$result"
+}
+
+built() { built_for "$room/empty" "$@"; }         # for a verdict
+built_ask() { built_for "$room/no-record" "$@"; } # for a question
+
+# So many programs of either name are there for use.
+stored() { # LOGCHECKS ASKS
+    check "not $1 programs for verdicts and $2 for questions are there" \
+        [ "$(find "$checkout/target/command" -name 'logcheck-*' | wc -l) $(find "$checkout/target/command" -name 'ask-*' | wc -l)" = "$1 $2" ]
 }
 
 # ---- the checks
@@ -126,6 +151,111 @@ check_first_use() {
     check 'programs of other sources are left' [ "$(ls "$checkout/target/command" | wc -l)" -eq 1 ]
 }
 
+# Each program is built by a use of its own, from its own sources, and takes the place of its own older ones.
+check_both_programs() {
+    new_checkout
+    run logcheck --source 0
+    built_ask 'the first question' 1 'this takes some minutes'
+    check 'the first question builds another program' [ "$(<"$CONTROL/calls")" = 'check ask' ]
+    run logcheck --edge 64 0
+    built_ask 'the second question' 1
+    stored 0 1
+    run logcheck
+    built 'the first verdict after a question' 2 'up to date'
+    check 'a verdict builds another program' [ "$(tail -n 1 "$CONTROL/calls")" = 'check logcheck' ]
+    stored 1 1
+    echo second >"$checkout/crates/ask/src/main.rt"
+    run logcheck
+    built 'a verdict, and another source of the questions alone' 2
+    run logcheck --source 0
+    built_ask 'another source of the questions' 3 'up to date'
+    echo second >"$checkout/crates/questions/src/lib.rt"
+    run logcheck
+    built 'a verdict, and another source of a crate below the questions alone' 3
+    run logcheck --source 0
+    built_ask 'another source of a crate below the questions' 4 'up to date'
+    stored 1 1
+    echo second >"$checkout/crates/logcheck/src/main.rt"
+    run logcheck --source 0
+    built_ask 'a question, and another source of the verdict alone' 4
+    run logcheck
+    built 'another source of the verdict' 5 'up to date'
+    stored 1 1
+    echo second >"$checkout/crates/sets/src/lib.rt"
+    touch "$checkout/target/command/logcheck-older" "$checkout/target/command/ask-older"
+    run logcheck
+    built 'another source of both, and a verdict' 6 'up to date'
+    stored 1 2 # the questions' are left to a question
+    run logcheck --edge 64 0
+    built_ask 'another source of both, and a question' 7 'up to date'
+    stored 1 1
+}
+
+check_half_a_question() {
+    new_checkout
+    run logcheck --source 0
+    rm -rf "$checkout/target/command"
+    echo half >"$checkout/target/bin/ask"
+    run logcheck --source 0
+    built_ask 'half a program for questions that rt finds unchanged' 3 'up to date' 'building from nothing'
+    rm -rf "$checkout/target/command"
+    printf '#!/bin/sh\necho serial 0\n' >"$checkout/target/bin/ask"
+    run logcheck --source 0
+    built_ask 'another program in the place of the one for questions' 5 'up to date' 'building from nothing'
+    rm -rf "$checkout/target/command"
+    echo 1 >"$CONTROL/fails"
+    cannot 'a build for a question that fails' 2 "'rt check ask' shows why" logcheck --source 0
+    cannot 'a wrong question, for which nothing is built' 1 'a number is missing' logcheck --source
+    check 'how often a build for a question is tried that fails' lines 6 "$CONTROL/calls"
+}
+
+# Both are rt's in one folder, so a verdict waits for the build of a question, and then builds its own program.
+check_both_at_once() {
+    local uses=()
+    new_checkout
+    touch "$CONTROL/holds"
+    start question --source 0
+    uses+=("$use")
+    check 'a question beside a verdict: the build does not begin' until_true [ -e "$CONTROL/began" ]
+    start more --edge 64 0
+    uses+=("$use")
+    start verdict
+    uses+=("$use")
+    check 'a question does not say that it waits for another' until_true has 'another build goes on' "$room/err.more"
+    check 'a verdict does not say that it waits for a question' until_true has 'another build goes on' "$room/err.verdict"
+    check 'a verdict does not wait for the build of a question' lines 1 "$CONTROL/calls"
+    rm "$CONTROL/holds"
+    ended verdict "${uses[2]}"
+    built 'a verdict beside two questions' 2 'another build goes on' 'up to date'
+    ended more "${uses[1]}"
+    built_ask 'the second of two questions beside a verdict' 2 'another build goes on'
+    ended question "${uses[0]}"
+    built_ask 'the first of two questions beside a verdict' 2 'this takes some minutes'
+    stored 1 1
+}
+
+# A ./test removes target/ just before a program is to run; the stand-in for the emulator does that. A pipe cannot be read twice, and the
+# log in it must be there all the same.
+check_removed_program() {
+    new_checkout
+    echo other >"$CONTROL/machine"
+    make_tool dpkg-query <<<'echo installed'
+    make_tool qemu-x86_64 <<'END'
+shift 2
+if [ -e "$CONTROL/removes" ]; then rm -r "$CONTROL/removes" target; fi
+exec "$@"
+END
+    run logcheck --source 0
+    touch "$CONTROL/removes"
+    run piped --source 0
+    built_for "$room/a-record" 'a question whose program is removed before it runs' 2 'this takes some minutes'
+    run logcheck
+    touch "$CONTROL/removes"
+    run piped
+    built 'a verdict whose program is removed before it runs' 4 'this takes some minutes'
+    rm "$tools/"{dpkg-query,qemu-x86_64}
+}
+
 # One builds; the others wait, say so, and answer.
 check_three_at_once() {
     local uses=() name
@@ -139,10 +269,7 @@ check_three_at_once() {
     done
     rm "$CONTROL/holds"
     for name in 1 2 3; do
-        wait "${uses[name - 1]}"
-        status=$?
-        cp "$room/out.$name" "$room/out"
-        cp "$room/err.$name" "$room/err"
+        ended "$name" "${uses[name - 1]}"
         if [ "$name" = 1 ]; then
             built 'the first of three uses at once' 1 'this takes some minutes'
         else
@@ -181,10 +308,7 @@ check_killed_command() {
     start next
     check 'the use after a command that was killed does not wait for its rt' until_true has 'another build goes on' "$room/err.next"
     rm "$CONTROL/holds"
-    wait "$use"
-    status=$?
-    cp "$room/out.next" "$room/out"
-    cp "$room/err.next" "$room/err"
+    ended next "$use"
     built 'the use after a command that was killed' 2 'another build goes on' 'up to date'
 }
 
@@ -282,6 +406,10 @@ END
 }
 
 check_first_use
+check_both_programs
+check_half_a_question
+check_both_at_once
+check_removed_program
 check_three_at_once
 check_killed_build
 check_killed_command

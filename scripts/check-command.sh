@@ -1,10 +1,11 @@
 #!/bin/bash
-# Tries ./logcheck on calls that are wrong, odd or unlucky: each has one line that says what is wrong, or the right answer, and the status
-# that goes with it. It prints a line for each failure, and `N passed, M failed` at the end. What a build has to do with is in
-# scripts/check-build.sh. No check asks for a time; `timeout` only ends a call that would never end.
+# Tries ./logcheck on questions, and on calls that are wrong, odd or unlucky: each has one line that says what is wrong, or the right answer,
+# and the status that goes with it. It prints a line for each failure, and `N passed, M failed` at the end. What a build has to do with is
+# in scripts/check-build.sh. No check asks for a time; `timeout` only ends a call that would never end.
 . "$(dirname "$0")/checks.sh"
 here=$PWD
 too_long=logs/records-4097.answer
+p2='w0[xA] w0[xB] w0[yC] c0 r1[yC] w1[xA] c1 r2[xB] w2[yC] c2' # logs/p02.log
 mkfifo "$room/pipe"
 
 # ---- callers, for the checks below
@@ -50,13 +51,154 @@ endless() { # TEXT [FIRST]
     { printf '%s' "${2-}" && yes "$1" | tr -d '\n'; } 2>/dev/null | timeout 60 ./logcheck --text
 }
 
-# A history from a writer that then neither goes on nor ends.
-from_slow_writer() { # HISTORY
-    { printf '%s' "$1" >&3 && timeout 60 ./logcheck --text <"$room/pipe" 3>&-; } 3<>"$room/pipe"
+# A text from a writer that then neither goes on nor ends.
+from_slow_writer() { # TEXT COMMAND ..
+    { printf '%s' "$1" >&3 && timeout 60 "${@:2}" <"$room/pipe" 3>&-; } 3<>"$room/pipe"
+}
+
+# Standard input can be read for 8 bytes, and then no more: it is perl's own memory, up to the end of its stack.
+from_half_readable() { # COMMAND ..
+    perl -e '
+        open my $memory, "<", "/proc/$$/mem" or die;
+        open my $maps, "<", "/proc/$$/maps" or die;
+        my ($end) = map { /-(\w+) .*\[stack\]/ ? hex $1 : () } <$maps>;
+        sysseek $memory, $end - 8, 0 or die;
+        my $child = fork // die;
+        if ($child == 0) { open STDIN, "<&", $memory or die; exec @ARGV or die }
+        waitpid $child, 0;
+        exit $? >> 8' "$@"
+}
+
+# A log from a pipe, byte by byte.
+from_pipe() { # FILE COMMAND ..
+    perl -e '$| = 1; open my $log, "<", shift or die; while (read $log, my $byte, 1) { print $byte; select undef, undef, undef, 0.002 }' "$1" |
+        "${@:2}"
 }
 
 repeat() { # TIMES TEXT
     yes "$2" 2>/dev/null | head -n "$1" | tr -d '\n'
+}
+
+# A command that must print this one line, and have its status.
+tells() { # WHAT ANSWER COMMAND ..
+    echo "$2" >"$room/told"
+    answers "$1" "$room/told" "${@:3}"
+}
+
+# ---- questions, whose answers are worked out by hand from the rules
+
+check_sources() {
+    local own='w0[xA] c0 r1[xA] w1[xA] r1[xA] c1' k
+    tells 'the source of a read' '0 2' ./logcheck --source 4 logs/p02.log
+    tells 'the source of another read' '0 1' ./logcheck --source 7 logs/p02.log
+    tells 'the source of the first record, a write' none ./logcheck --source 0 logs/p02.log
+    tells 'the source of the last record, a commit' none ./logcheck --source 9 logs/p02.log
+    tells 'the source of a record at the end' 'refused 10 0' ./logcheck --source 10 logs/p02.log
+    tells 'the source of a record of no records' 'refused 10 0' ./logcheck --source 0 --text ''
+    tells 'a source before an own write' '0 0' ./logcheck --source 2 --text "$own"
+    tells 'a source that is an own write' '1 3' ./logcheck --source 4 --text "$own"
+    for k in 0 1 2 65535; do
+        tells "the source of record $k of a refused log" 'refused 7 0' ./logcheck --source "$k" logs/p07.log
+    done
+    { repeat 4093 'w0[xA] ' && echo 'w5[xA] r0[xA] c0 c5'; } >"$room/text" # one record too many
+    tells 'a source in a log that is too long' 'refused 1 0' ./logcheck --source 0 --text <"$room/text"
+    { repeat 4092 'w0[xA] ' && echo 'w5[xA] r0[xA] c0 c5'; } >"$room/text"
+    tells 'a source in the longest log' '5 4092' ./logcheck --source 4093 --text <"$room/text"
+    tells 'the last record of the longest log' none ./logcheck --source 4095 --text <"$room/text"
+    tells 'a record past the longest log' 'refused 10 0' ./logcheck --source 4096 --text <"$room/text"
+}
+
+check_edges() {
+    tells 'an edge by a conflict' 1 ./logcheck --edge 1 2 logs/p02.log
+    tells 'an edge by the write order' 2 ./logcheck --edge 5 3 logs/p09.log
+    tells 'an edge by a read before' 3 ./logcheck --edge 2 1 logs/p02.log
+    tells 'no edge, where there is one the other way' 0 ./logcheck --edge 3 5 logs/p09.log
+    tells 'no edge from a transaction to itself' 0 ./logcheck --edge 1 1 logs/p02.log
+    tells 'no edge to a transaction that is not in the log' 0 ./logcheck --edge 0 63 logs/p02.log
+    tells 'an edge to a transaction above 63' 'refused 10 0' ./logcheck --edge 0 64 logs/p02.log
+    tells 'an edge from a transaction above 63' 'refused 10 0' ./logcheck --edge 64 0 logs/p02.log
+    tells 'an edge from a transaction whose low byte is 1' 'refused 10 0' ./logcheck --edge 257 2 logs/p02.log
+    tells 'an edge to a transaction whose low byte is 2' 'refused 10 0' ./logcheck --edge 1 258 logs/p02.log
+    tells 'an edge of a refused log' 'refused 7 0' ./logcheck --edge 0 1 logs/p07.log
+    tells 'an edge above 63 of a refused log' 'refused 7 0' ./logcheck --edge 64 64 logs/p07.log
+}
+
+# A question takes a log in every way that a verdict does, and --text stands on either side of it.
+check_ways_to_ask() {
+    echo "$p2" >"$room/text"
+    cp logs/p02.log "$room/-p02.log"
+    tells 'a question on standard input' '0 2' ./logcheck --source 4 <logs/p02.log
+    tells 'a question on standard input, by name' 3 ./logcheck --edge 2 1 - <logs/p02.log
+    tells 'a question on a pipe' '0 2' from_pipe logs/p02.log ./logcheck --source 4
+    tells 'a question on a file that is a pipe' '0 2' ./logcheck --source 4 <(cat logs/p02.log)
+    tells 'a question, another folder, and a name with a dash' '0 1' in_folder "$room" "$here/logcheck" --source 7 -- -p02.log
+    tells 'a question on standard input, after --' '0 1' ./logcheck --source 7 -- <logs/p02.log
+    tells 'a question and then a history' '0 2' ./logcheck --source 4 --text "$p2"
+    tells 'a history for which a question follows' '0 2' ./logcheck --text --source 4 "$p2"
+    tells 'an edge and then a history' 3 ./logcheck --edge 2 1 --text "$p2"
+    tells 'a history for which an edge follows' 3 ./logcheck --text --edge 2 1 "$p2"
+    tells 'a question and a history on standard input' '0 2' ./logcheck --source 4 --text <"$room/text"
+    tells 'a history on standard input for which a question follows' '0 2' ./logcheck --text --source 4 <"$room/text"
+    tells 'a question and a history on standard input, by name' '0 2' ./logcheck --text --source 4 - <"$room/text"
+    tells 'a question by sh' '0 2' sh ./logcheck --source 4 logs/p02.log
+    tells 'a question, and a file of 20,000 bytes' 'refused 1 0' ./logcheck --source 4 <(head -c 20000 /dev/zero)
+    tells 'a question, and 16,384 bytes' 'refused 4 0' ./logcheck --source 4 <(head -c 16384 /dev/zero)
+    tells 'a question, and zero bytes without an end' 'refused 1 0' timeout 60 ./logcheck --source 4 /dev/zero
+    tells 'a question, and a writer that waits' 'refused 1 0' from_slow_writer "$(repeat 16385 c)" ./logcheck --source 4
+    tells 'a question, bytes enough, and no signal for a pipe' 'refused 1 0' without_signal timeout 60 ./logcheck --edge 1 2 /dev/zero
+    cp logs/h1.log "$room/--source"
+    answers 'a file that has the name of a question' "$here/logs/h1.answer" in_folder "$room" "$here/logcheck" -- --source
+}
+
+# Any number of digits, which are never taken for octal ones, nor counted from 0 on again.
+check_numbers() {
+    local k
+    tells 'a zero in front' none ./logcheck --source 08 logs/p02.log
+    tells 'zeros in front' '0 2' ./logcheck --source 0000000000000000000000000000004 logs/p02.log
+    tells 'zeros in front of an edge' 3 ./logcheck --edge 002 0001 logs/p02.log
+    tells 'zeros alone' none ./logcheck --source 000 logs/p02.log
+    for k in 010 256 260 09999 65535 65536 65540 99999 100004 4294967300 9223372036854775808 18446744073709551620; do
+        tells "record $k" 'refused 10 0' ./logcheck --source "$k" logs/p02.log
+        tells "an edge to $k" 'refused 10 0' ./logcheck --edge 1 "0${k}0" logs/p02.log
+        tells "an edge from $k" 'refused 10 0' ./logcheck --edge "${k}0" 1 logs/p02.log
+    done
+    tells '100,000 zeros in front' '0 2' timeout 60 ./logcheck --source "$(repeat 100000 0)4" logs/p02.log
+    tells '100,000 digits' 'refused 10 0' timeout 60 ./logcheck --edge "$(repeat 100000 9)" 1 logs/p02.log
+}
+
+check_wrong_questions() {
+    local k
+    for k in x -1 +1 1.0 0x1 '1 2' ' 1' '' $'1\n' ١ 1e3 4x; do
+        refuses "record $k" "--source wants the number of a record, counted from 0, and " ./logcheck --source "$k" logs/p02.log
+        refuses "an edge from $k" "--edge wants the numbers of two transactions, and " ./logcheck --edge "$k" 1 logs/p02.log
+        refuses "an edge to $k" "--edge wants the numbers of two transactions, and " ./logcheck --edge 1 "$k" logs/p02.log
+    done
+    refuses 'a word that is no number' "and 'x' is none (see --help)" ./logcheck --source x logs/p02.log
+    refuses 'a history for a number' "and '$p2' is none" ./logcheck --text --source "$p2"
+    refuses 'no number of a record' 'a number is missing: --source wants the number of a record' ./logcheck --source
+    refuses 'no number of a record of a history' 'a number is missing: --source wants' ./logcheck --text --source
+    refuses 'no number of a transaction' 'a number is missing: --edge wants the numbers of two transactions' ./logcheck --edge
+    refuses 'one number of a transaction' 'a number is missing: --edge wants' ./logcheck --edge 1
+    refuses 'a file for a number' "a number is missing before 'logs/p02.log': --source wants" ./logcheck --source logs/p02.log
+    refuses 'a file for the second number' "a number is missing before 'logs/p02.log': --edge wants" ./logcheck --edge 1 logs/p02.log
+    refuses 'standard input for a number' "a number is missing before '-': --source wants" ./logcheck --source - <logs/p02.log
+    refuses '--text for a number' "a number is missing before '--text': --source wants" ./logcheck --source --text "$p2"
+    refuses 'two questions' 'one question at a time' ./logcheck --source 4 --edge 1 2 logs/p02.log
+    refuses 'the same question twice' 'one question at a time' ./logcheck --source 4 --source 4 logs/p02.log
+    refuses 'two questions on a history' 'one question at a time' ./logcheck --edge 1 2 --text --source 4 "$p2"
+    refuses 'a question and two files' 'too many arguments: one FILE' ./logcheck --source 4 logs/p01.log logs/p02.log
+    refuses 'a question and two histories' 'a history is one, in quotes' ./logcheck --source 4 --text c0 c1
+    refuses 'a question after FILE' '--source stands before a FILE or a history' ./logcheck logs/p02.log --source 4
+    refuses 'a question after a history' '--edge stands before a FILE or a history' ./logcheck --text "$p2" --edge 1 2
+    refuses '--text after FILE' '--text stands before a FILE or a history' ./logcheck logs/p02.log --text
+    refuses 'an option after a question' "no option '--wrong'" ./logcheck --source 4 --wrong logs/p02.log
+    refuses '--help after a question' '--help stands alone' ./logcheck --source 4 --help
+    refuses '--version after a question' '--version stands alone' ./logcheck --edge 1 2 --version
+    refuses 'a number that belongs to the option' "no option '--source=4'" ./logcheck --source=4 logs/p02.log
+    refuses 'a question, and a file that is not there' "no file '$room/none'" ./logcheck --source 4 "$room/none"
+    refuses 'a question, and an empty name' 'name of the file is empty' ./logcheck --source 4 ''
+    refuses 'a question, and a folder' "'logs' is a directory" ./logcheck --edge 1 2 logs
+    refuses 'a question, and a wrong history' "record 1, character 8: 'q1[xB]' is not" ./logcheck --source 4 --text 'w0[xA] q1[xB] c0'
 }
 
 # ---- what is given
@@ -70,6 +212,10 @@ check_wrong_calls() {
     refuses 'an option that is not there' "'--wrong'" ./logcheck --wrong
     refuses 'a name with a dash and no --' "'-c7.log'" ./logcheck -c7.log
     refuses 'two histories' 'a history is one, in quotes' ./logcheck --text c0 c1
+    refuses 'an option for a history' "record 0, character 1: '--help' is not" ./logcheck --text --help
+    refuses 'two dashes for a history' "record 0, character 1: '--' is not" ./logcheck --text --
+    refuses '--text for a history' "record 0, character 1: '--text' is not" ./logcheck --text --text
+    refuses '--text for the history of a question' "record 0, character 1: '--text' is not" ./logcheck --text --source 0 --text
     refuses '--version with an argument' 'too many arguments' ./logcheck --version 1
     refuses '--help with an argument' 'too many arguments' ./logcheck --help logs/p01.log
     refuses 'a name with a line break' "no file \$'a\\nb'" ./logcheck $'a\nb'
@@ -83,6 +229,7 @@ check_wrong_calls() {
     if [ "$(id -u)" -ne 0 ]; then # root may read everything
         install -m 0 /dev/null "$room/closed"
         refuses 'a file that cannot be read' "'$room/closed' cannot be read: Permission denied" ./logcheck "$room/closed"
+        refuses 'a question on a file that cannot be read' "'$room/closed' cannot be read: Permission denied" ./logcheck --source 0 "$room/closed"
     fi
 }
 
@@ -134,7 +281,7 @@ check_long_histories() {
     refuses 'wrong words without an end' "record 0, character 1: 'qqq" endless q
     repeat 5000 'w0[10,10]' >"$room/text" # bytes that are line ends, and a program that stops reading
     answers 'too many operations, and no signal for a pipe' "$too_long" without_signal ./logcheck --text <"$room/text"
-    answers 'operations enough, and a writer that waits' "$too_long" from_slow_writer "$(repeat 4098 'c0 ')"
+    answers 'operations enough, and a writer that waits' "$too_long" from_slow_writer "$(repeat 4098 'c0 ')" ./logcheck --text
 }
 
 # Ways to write one and the same, and inputs that are odd but good.
@@ -200,6 +347,7 @@ check_hints() {
     answers 'a history and then a log: no hint' logs/kind-0.answer ./logcheck <(printf 'c0  \1\0\0\0')
     refuses 'the name of a history to --text' "was ./logcheck --text <'$room/h.txt' meant?" ./logcheck --text "$room/h.txt"
     refuses 'the name of a log to --text' "was ./logcheck 'logs/h1.log' meant?" ./logcheck --text logs/h1.log
+    check_hints_on_questions
     refuses 'a log to --text' 'record 0, character 1' ./logcheck --text <logs/p02.log
     check 'a log to --text: a hint' grep -qF 'a log is judged without --text' "$room/err"
     refuses 'a capital letter for a kind' "'W0[xA]' is not an operation, but 'w0[xA]' is" ./logcheck --text 'W0[xA] c0'
@@ -209,6 +357,22 @@ check_hints() {
     refuses 'a capital letter for a commit' "'C0' is not an operation, but 'c0' is" ./logcheck --text 'w0[xA] C0'
 }
 
+# The question belongs to what may have been meant.
+check_hints_on_questions() {
+    hints 'a question on a file with a history' logs/three-bytes.answer "was ./logcheck --source 1 --text <'$room/h.txt' meant?" \
+        ./logcheck --source 1 "$room/h.txt"
+    hints 'a question on a history on standard input' logs/three-bytes.answer 'was ./logcheck --edge 0 01 --text meant?' \
+        ./logcheck --edge 0 01 <"$room/h.txt"
+    hints 'a question on a text that has whole records' logs/kind-0.answer 'is text' ./logcheck --source 1 "$room/8"
+    hints 'a question on a long text' "$too_long" 'is text' ./logcheck --source 1 "$room/long"
+    answers 'a question on a history and then a log: no hint' logs/kind-0.answer ./logcheck --source 1 <(printf 'c0  \1\0\0\0')
+    refuses 'a question, and a history for FILE' 'it reads as a history: was --text meant?' ./logcheck --source 1 'w0[xA] c0'
+    refuses 'a question, and the name of a history to --text' "was ./logcheck --source 1 --text <'$room/h.txt' meant?" \
+        ./logcheck --text --source 1 "$room/h.txt"
+    refuses 'a question, and the name of a log to --text' "was ./logcheck --edge 1 2 'logs/h1.log' meant?" \
+        ./logcheck --edge 1 2 --text logs/h1.log
+}
+
 # ---- where it comes from and goes to
 
 check_closed() {
@@ -216,6 +380,14 @@ check_closed() {
     refuses 'no standard input, by name' 'standard input is closed' without_input ./logcheck -
     refuses 'no standard input, by another name' "'/dev/stdin'" without_input ./logcheck /dev/stdin
     refuses 'no standard input for a history' 'standard input is closed' without_input ./logcheck --text
+    refuses 'no standard input for a question' 'standard input is closed' without_input ./logcheck --source 0
+    refuses 'no standard input for a question, by name' 'standard input is closed' without_input ./logcheck --edge 0 1 -
+    refuses 'no standard input for a question, by another name' "'/dev/stdin'" without_input ./logcheck --source 0 /dev/stdin
+    refuses 'no standard input for a question on a history' 'standard input is closed' without_input ./logcheck --source 0 --text
+    tells 'a question on a file, and no standard input' '0 2' without_input ./logcheck --source 4 logs/p02.log
+    tells 'a question on a history, and no standard input' '0 2' without_input ./logcheck --source 4 --text "$p2"
+    tells 'a question, and no standard error' '0 2' without_errors ./logcheck --source 4 logs/p02.log
+    refuses 'no standard output for a question' 'standard output is closed' without_output ./logcheck --source 4 logs/p02.log
     answers 'a file, and no standard input' logs/h1.answer without_input ./logcheck logs/h1.log
     answers 'a history, and no standard input' logs/c7.answer without_input ./logcheck --text c7
     answers 'no standard error' logs/h1.answer without_errors ./logcheck logs/h1.log
@@ -233,6 +405,13 @@ check_unlucky() {
     refuses 'a folder on standard input' 'standard input cannot be read' ./logcheck <logs
     refuses 'a folder on standard input for a history' 'standard input cannot be read: Is a directory' ./logcheck --text <logs
     refuses 'a file whose read fails' "'/proc/self/mem' cannot be read" ./logcheck /proc/self/mem
+    refuses 'a folder on standard input for a question' 'standard input cannot be read' ./logcheck --source 0 <logs
+    refuses 'a file whose read fails, for a question' "'/proc/self/mem' cannot be read" ./logcheck --source 0 /proc/self/mem
+    refuses 'a read that fails half way' 'standard input cannot be read' from_half_readable ./logcheck
+    refuses 'a read that fails half way, for a source' 'standard input cannot be read' from_half_readable ./logcheck --source 0
+    refuses 'a read that fails half way, for an edge' 'standard input cannot be read' from_half_readable ./logcheck --edge 0 1
+    refuses 'a full disk for a question' 'standard output cannot be written' into_full ./logcheck --source 4 logs/p02.log
+    refuses 'a reader of an edge that is gone' 'standard output cannot be written' without_reader ./logcheck --edge 1 2 logs/p02.log
     refuses 'a full disk' 'standard output cannot be written' into_full ./logcheck logs/h1.log
     refuses 'a full disk for a history' 'standard output cannot be written' into_full ./logcheck --text c7
     refuses 'a full disk for --help' 'standard output cannot be written' into_full ./logcheck --help
@@ -248,10 +427,13 @@ check_environment() {
     local setting
     printf 'exit 7\n' >"$room/start"
     for setting in POSIXLY_CORRECT=1 LC_ALL=xx_XX.UTF-8 LC_ALL=C LANG=xx_XX CDPATH="$room" TMPDIR="$room/none" "BASH_ENV=$room/start" \
-        SHELLOPTS=xtrace:noglob 'BASH_FUNC_printf%%=() { :; }' PERL5OPT=-Mnone PERL_UNICODE=SAD QEMU_STRACE=1 PATH=/none GREP_OPTIONS=-v; do
+        SHELLOPTS=xtrace:noglob 'BASH_FUNC_printf%%=() { :; }' PERL5OPT=-Mnone PERL_UNICODE=SAD QEMU_STRACE=1 PATH=/none GREP_OPTIONS=-v \
+        'asked= --edge 0 1' taken=yes; do
         answers "a log, with $setting" logs/h1.answer env "$setting" ./logcheck logs/h1.log
         answers "a history, with $setting" logs/c7.answer env "$setting" ./logcheck --text 'c7'
+        tells "a question, with $setting" '0 2' env "$setting" ./logcheck --source 4 logs/p02.log
     done
+    tells 'a question, without an environment' '0 2' env -i ./logcheck --source 4 logs/p02.log
     answers 'a log, without an environment' logs/h1.answer env -i ./logcheck logs/h1.log
     answers 'a history, without an environment' logs/c7.answer env -i ./logcheck --text 'c7'
     refuses 'a wrong file, with POSIXLY_CORRECT' 'no file' env POSIXLY_CORRECT=1 ./logcheck "$room/none"
@@ -262,11 +444,17 @@ check_environment() {
 check_terminal() {
     run timeout 60 script -qec "'$here/logcheck'" /dev/null </dev/null
     check 'no FILE at a terminal: no word on it' grep -q 'standard input is a terminal' "$room/out"
+    run timeout 60 script -qec "'$here/logcheck' --source 0" /dev/null </dev/null
+    check 'a question, and no FILE at a terminal: no word on it' grep -q 'standard input is a terminal' "$room/out"
     echo 'c7' >"$room/text"
     run timeout 60 script -qec "'$here/logcheck' --text" /dev/null <"$room/text"
     cp "$room/out" "$room/terminal"
     check '--text at a terminal: no word on how to end it' grep -q '^logcheck: waiting for a history; Ctrl-D' "$room/terminal"
     check '--text at a terminal: no answer' grep -q '^serial 1' "$room/terminal"
+    run timeout 60 script -qec "'$here/logcheck' --source 0 --text" /dev/null <"$room/text"
+    cp "$room/out" "$room/terminal"
+    check 'a question and --text at a terminal: no word on how to end it' grep -q '^logcheck: waiting for a history; Ctrl-D' "$room/terminal"
+    check 'a question and --text at a terminal: no answer' grep -q '^none' "$room/terminal"
 }
 
 # ---- what it says of itself
@@ -276,8 +464,9 @@ check_help() {
     check './logcheck --help fails' ./logcheck --help
     cp "$room/said" "$room/help"
     for words in '^Asks of a finished run .* one-copy serializable' '^    0 .*serial n' '^    1 .*cycle n' '^    2 .*refused number' \
-        '^    3 .*none' 'docs/LOGS.md is the reference' 'r1\[xA\]'; do
-        check "./logcheck --help has no $words" grep -q "$words" "$room/help"
+        '^    3 .*(nothing)' '^    --source K .*transaction place' '^    --edge I J .*reason' '^./logcheck --source K FILE ' \
+        '^./logcheck --edge I J FILE ' 'docs/LOGS.md is the reference' 'r1\[xA\]'; do
+        check "./logcheck --help has no $words" grep -q -- "$words" "$room/help"
     done
     check './logcheck --help speaks of document 01' lacks 'document 01' "$room/help"
     run ./logcheck -h
@@ -288,6 +477,12 @@ check_help() {
 }
 
 ./logcheck </dev/null >/dev/null # builds it, where that is needed
+./logcheck --source 0 </dev/null >/dev/null # the same for the program that answers questions
+check_sources
+check_edges
+check_ways_to_ask
+check_numbers
+check_wrong_questions
 check_wrong_calls
 check_wrong_histories
 check_places

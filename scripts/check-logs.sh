@@ -1,6 +1,7 @@
 #!/bin/bash
-# Holds the stored logs to their list and ./logcheck to their answers. It prints a line for each failure, and `N passed, M failed` at the
-# end. With `--make` it only makes the logs of logs/list.txt anew (never the answers, which are worked out by hand).
+# Holds the stored logs to their list and ./logcheck to their answers, and what it answers to questions about them to the second checker. It
+# prints a line for each failure, and `N passed, M failed` at the end. With `--make` it only makes the logs of logs/list.txt anew (never the
+# answers, which are worked out by hand).
 . "$(dirname "$0")/checks.sh"
 
 # The row of the table in logs/README.md for an entry of the list, but for what it shows.
@@ -24,6 +25,18 @@ check_entry() { # NAME ENTRY
     fi
 }
 
+# The questions about every log, held to the second checker, which says what is asked.
+check_questions() {
+    local file question answer asked=0
+    while IFS=$'\t' read -r file question answer <&3; do
+        echo "$answer" >"$room/wanted"
+        # shellcheck disable=SC2086
+        answers "./logcheck $question $file: not $answer" "$room/wanted" ./logcheck $question "$file"
+        asked=$((asked + 1))
+    done 3< <(CARGO_TARGET_DIR=target/rust cargo run --release --offline --quiet --manifest-path second/Cargo.toml --bin questions -- logs/*.log)
+    check 'the second checker has fewer than 400 questions about the logs' [ "$asked" -ge 400 ]
+}
+
 # Every file of the folder belongs to the list.
 check_folder() {
     local file name
@@ -33,7 +46,8 @@ check_folder() {
     done
 }
 
-if [ "${1-}" != --make ] && ! ./logcheck </dev/null >/dev/null; then # builds it, where that is needed
+# Builds both programs, where that is needed.
+if [ "${1-}" != --make ] && ! { ./logcheck --text '' && ./logcheck --edge 0 0 --text ''; } >/dev/null; then
     echo 'failed: ./logcheck does not run'
     echo '0 passed, 1 failed'
     exit 1
@@ -48,4 +62,5 @@ while IFS=$'\t' read -r name entry <&3; do
 done 3<logs/list.txt
 [ "${1-}" != --make ] || exit 0
 check_folder
+check_questions
 counts

@@ -5,7 +5,9 @@
 #                 repeat 3 c0 c1    a history that has the operation so many times, and then the rest
 #                 bytes 3 0 0       the bytes of a log
 #                 call ..           a call of the library, where log is the 4 bytes of c0 and answer is a buffer
-#   blocks    a line `    $ ./logcheck --text 'HISTORY'`, and below it what is printed
+#                 --source 1 c0     a question, or --edge 0 1, and its history
+#   blocks    a line `    $ ./logcheck --text 'HISTORY'`, and below it what is printed; a question, as `--source 4` or `--edge 1 2`, may
+#             stand before --text
 #   dump      rows of a record's number, its 4 bytes in hexadecimal, its operation, its first byte's place, and its copy number or none
 # What is printed must be the same, and the status that of the answer. The calls want target/staticlib/libclib.a. It prints a line for each
 # failure, and `N passed, M failed` at the end.
@@ -15,11 +17,21 @@
 
 page=docs/LOGS.md
 
-# The examples of a page: a line each, of its place, the row's first cell (or -), the example and the answer on one line.
+# The examples of a page: a line each, of its place, the row's first cell (or -), the example and the answer on one line. An example of a
+# question is the question, and then its history.
 examples() { # PAGE
     awk -v OFS='\t' '
-        function end_block() { if (at) print FILENAME ", line " at, "-", "`" history "`", "`" answer "`"; at = 0 }
-        /^    \$ / { end_block(); at = FNR; answer = ""; split($0, part, "\047"); history = part[2]; next }
+        function end_block() { if (at) print FILENAME ", line " at, "-", "`" example "`", "`" answer "`"; at = 0 }
+        /^    \$ / {
+            end_block()
+            at = FNR
+            answer = ""
+            split($0, part, "\047")
+            sub(/^    \$ \.\/logcheck /, "", part[1])
+            sub(/--text $/, "", part[1])
+            example = part[1] part[2]
+            next
+        }
         /^    / && at { answer = answer (answer == "" ? "" : answer ~ /:/ ? ", " : ": ") substr($0, 5); next }
         { end_block() }
         /^\|/ {
@@ -52,10 +64,18 @@ END_OF_C
 
 # What an example answers.
 answer_to() { # EXAMPLE
-    local history
+    local history option i j
     case $1 in
     '(empty)') ./logcheck --text '' ;;
     call\ *) called "${1#call }" ;;
+    --source\ *)
+        read -r option i history <<<"$1"
+        ./logcheck "$option" "$i" --text "$history"
+        ;;
+    --edge\ *)
+        read -r option i j history <<<"$1"
+        ./logcheck "$option" "$i" "$j" --text "$history"
+        ;;
     *)
         if history=$(history_of "$1"); then
             ./logcheck --text "$history"
@@ -105,9 +125,9 @@ check_dump() {
 
 # Nothing was overlooked, every refusal has its row, and every reason an answer that shows it.
 check_whole() {
-    local number reason
-    check "$page: a line with \$ in front that is no ./logcheck --text" \
-        [ "$(grep -c '^    \$ ' "$page")" -eq "$(grep -c "^    \\\$ ./logcheck --text '[^']*'\$" "$page")" ]
+    local number reason call="./logcheck (--source [0-9]+ |--edge [0-9]+ [0-9]+ )?--text '[^']*'"
+    check "$page: a line with \$ in front that is no ./logcheck --text, with a question or without" \
+        [ "$(grep -c '^    \$ ' "$page")" -eq "$(grep -cE "^    \\\$ $call\$" "$page")" ]
     # shellcheck disable=SC2016
     check "$page: an answer that stands in no row of an example" \
         [ "$(grep -o '`\(serial\|cycle\|refused\) [0-9][^`]*`' "$page" | wc -l)" -eq "$(grep -vc "$(printf '\t-\t')" "$room/examples")" ]
@@ -121,6 +141,7 @@ check_whole() {
 }
 
 check './logcheck does not run' ./logcheck logs/p01.log # builds it, where that is needed
+check './logcheck --edge does not run' ./logcheck --edge 0 0 logs/p01.log # the same for the program that answers questions
 check 'the tools for x86-64 are not there' x86_setup
 check 'there is no library to link' x86_library
 if [ "$failed" -gt 0 ]; then

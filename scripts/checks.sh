@@ -31,7 +31,7 @@ judged() { # WHAT STATUS
 # The status that goes with an answer.
 status_of() { # ANSWER-FILE
     case $(head -n 1 "$1") in
-    serial\ *) echo 0 ;;
+    serial\ * | none | [0-9]*) echo 0 ;; # a verdict, or a question that is answered
     cycle\ *) echo 1 ;;
     refused\ *) echo 2 ;;
     esac
