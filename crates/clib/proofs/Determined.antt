@@ -32,8 +32,8 @@ none-alone log k = go (source-answer log k) refl
     go : (a : Answer (Option Source)) → source-answer log k ≡ a
         → (coded-source a .transaction ≡ none-number) ⊎ (coded-source a .«record» ≡ none-number) → a ≡ gives none
     go (gives none) q e = refl
-    go (gives (some s)) q (inl e) = absurd (omega (arith, told-below log k s q .transaction-below, e))
-    go (gives (some s)) q (inr e) = absurd (omega (arith, told-below log k s q .place-below, e))
+    go (gives (some s)) q (inl e) = let b = told-below log k s q in absurd (omega (arith, b .transaction-below, b .place-below, e))
+    go (gives (some s)) q (inr e) = let b = told-below log k s q in absurd (omega (arith, b .transaction-below, b .place-below, e))
     go (refused n p) q (inl e) = absurd (omega (arith, e))
     go (refused n p) q (inr e) = absurd (omega (arith, e))
 

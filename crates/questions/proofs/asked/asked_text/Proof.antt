@@ -45,7 +45,7 @@ returns-2 c =
     let first = second .before in
     let whole-one = first .before in
     let input = now (whole-one .before .before .args .input) in
-    let asked = edge-asked input (omega (arith, whole-one .if1 .left)) (chosen .if2 .taken) in
+    let asked = edge-asked input (omega (arith, whole-one .if1 .left)) (omega (arith, chosen .if2 .taken)) in
     let i = first .number-at .result in
     let j = second .number-at2 .result in
     prints-same
@@ -72,7 +72,7 @@ returns-3 c =
     let first = chosen .before .before .before in
     let whole-one = first .before in
     let input = now (whole-one .before .before .args .input) in
-    let asked = source-asked input (omega (arith, whole-one .if1 .left)) (chosen .if2 .left) in
+    let asked = source-asked input (omega (arith, whole-one .if1 .left)) (λ q. omega (arith, chosen .if2 .left, q)) in
     prints-same
     (ap (λ (log : List ℕ). printed-source log (first .number-at .result)) (part-behind 5 input)
     ∙ ap (printed-source (drop 5 input)) (first .number-at .ensures)
