@@ -188,6 +188,8 @@ check_wrong_questions() {
     refuses 'two questions on a history' 'one question at a time' ./logcheck --edge 1 2 --text --source 4 "$p2"
     refuses 'a question and two files' 'too many arguments: one FILE' ./logcheck --source 4 logs/p01.log logs/p02.log
     refuses 'a question and two histories' 'a history is one, in quotes' ./logcheck --source 4 --text c0 c1
+    refuses '--text twice, before a question' '--text stands twice' ./logcheck --text --text --source 4 c0
+    refuses '--text twice, behind a question' '--text stands twice' ./logcheck --source 4 --text --text c0
     refuses 'a question after FILE' '--source stands before a FILE or a history' ./logcheck logs/p02.log --source 4
     refuses 'a question after a history' '--edge stands before a FILE or a history' ./logcheck --text "$p2" --edge 1 2
     refuses '--text after FILE' '--text stands before a FILE or a history' ./logcheck logs/p02.log --text
@@ -361,7 +363,7 @@ check_hints() {
 check_hints_on_questions() {
     hints 'a question on a file with a history' logs/three-bytes.answer "was ./logcheck --source 1 --text <'$room/h.txt' meant?" \
         ./logcheck --source 1 "$room/h.txt"
-    hints 'a question on a history on standard input' logs/three-bytes.answer 'was ./logcheck --edge 0 01 --text meant?' \
+    hints 'a question on a history on standard input' logs/three-bytes.answer 'was ./logcheck --edge 0 1 --text meant?' \
         ./logcheck --edge 0 01 <"$room/h.txt"
     hints 'a question on a text that has whole records' logs/kind-0.answer 'is text' ./logcheck --source 1 "$room/8"
     hints 'a question on a long text' "$too_long" 'is text' ./logcheck --source 1 "$room/long"
@@ -371,6 +373,10 @@ check_hints_on_questions() {
         ./logcheck --text --source 1 "$room/h.txt"
     refuses 'a question, and the name of a log to --text' "was ./logcheck --edge 1 2 'logs/h1.log' meant?" \
         ./logcheck --edge 1 2 --text logs/h1.log
+    cp logs/p02.log "$room/-p02.log"
+    refuses 'a question, and a name with a dash to --text' "was ./logcheck --source 4 -- '-p02.log' meant?" \
+        in_folder "$room" "$here/logcheck" --source 4 --text -p02.log
+    tells 'a question as that hint has it' '0 2' in_folder "$room" "$here/logcheck" --source 4 -- -p02.log
 }
 
 # ---- where it comes from and goes to
@@ -428,7 +434,7 @@ check_environment() {
     printf 'exit 7\n' >"$room/start"
     for setting in POSIXLY_CORRECT=1 LC_ALL=xx_XX.UTF-8 LC_ALL=C LANG=xx_XX CDPATH="$room" TMPDIR="$room/none" "BASH_ENV=$room/start" \
         SHELLOPTS=xtrace:noglob 'BASH_FUNC_printf%%=() { :; }' PERL5OPT=-Mnone PERL_UNICODE=SAD QEMU_STRACE=1 PATH=/none GREP_OPTIONS=-v \
-        'asked= --edge 0 1' taken=yes; do
+        FUNCNEST=1 BASH_COMPAT=xx 'asked= --edge 0 1' taken=yes; do
         answers "a log, with $setting" logs/h1.answer env "$setting" ./logcheck logs/h1.log
         answers "a history, with $setting" logs/c7.answer env "$setting" ./logcheck --text 'c7'
         tells "a question, with $setting" '0 2' env "$setting" ./logcheck --source 4 logs/p02.log
