@@ -1,7 +1,7 @@
 -- Document 01's rule for the line and the cycle, over any edges between the numbers below n and any set of them. Edges from a transaction
 -- to itself, and edges to or from one outside the set, are never asked for.
 use Rattle.std.specs.Prelude.{ℕ, zero, suc, min, Bool, false, ◌&&◌, ◌||◌, not, cond, List, [], ◌∷◌, ◌++◌, eqb, length, take, drop}
-use Rattle.std.proofs.Math.Option.{Option, Option·elim}
+use Rattle.std.proofs.Math.Option.{Option, Option-elim}
 use Rattle.sets.specs.Search.{some_below, first_below, without}
 
 -- s is a predecessor of t among those left: it is left, it is not t, and there is an edge from s to t
@@ -43,7 +43,7 @@ to_lowest xs = turned (place_of (lowest_member xs) xs) xs
 unfoldable pub walk : (ℕ → Option ℕ) → ℕ → ℕ → List ℕ → List ℕ
 walk back zero t path = []
 walk back (suc m) t path =
-    Option·elim (back t) [] (λ s. cond (among path s) (up_to s path) (walk back m s (s ∷ path)))
+    Option-elim (back t) [] (λ s. cond (among path s) (up_to s path) (walk back m s (s ∷ path)))
 
 -- what the rule gives: a line or a cycle
 pub data LineOrCycle (A : Type 0) : Type 0 where
@@ -63,12 +63,12 @@ module _ (n : ℕ) (edge : ℕ → ℕ → Bool) where
   -- others are left,
   unfoldable pub placed : ℕ → (ℕ → Bool) → List ℕ
   placed zero left = []
-  placed (suc m) left = Option·elim (next left) [] (λ t. t ∷ placed m (without left t))
+  placed (suc m) left = Option-elim (next left) [] (λ t. t ∷ placed m (without left t))
 
   -- and those that are then left
   unfoldable pub rest : ℕ → (ℕ → Bool) → ℕ → Bool
   rest zero left = left
-  rest (suc m) left = Option·elim (next left) left (λ t. rest m (without left t))
+  rest (suc m) left = Option-elim (next left) left (λ t. rest m (without left t))
 
   -- "its lowest-numbered predecessor among those left"
   unfoldable pub lowest_predecessor : (ℕ → Bool) → ℕ → Option ℕ
@@ -82,7 +82,7 @@ module _ (n : ℕ) (edge : ℕ → ℕ → Bool) where
   -- the line, where all have been placed; else the cycle that is found "from the lowest-numbered one left"
   unfoldable pub sorted : (ℕ → Bool) → LineOrCycle (List ℕ)
   sorted set =
-      Option·elim (first_below n (rest n set)) (line (placed n set)) (λ t. cycle (cycle_from (rest n set) t))
+      Option-elim (first_below n (rest n set)) (line (placed n set)) (λ t. cycle (cycle_from (rest n set) t))
 
 -- the members of the line or the cycle
 abbrev pub members_of : LineOrCycle (List ℕ) → List ℕ

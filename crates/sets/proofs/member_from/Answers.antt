@@ -1,0 +1,13 @@
+-- `sets::member_from` meets its contract: the lowest 1 of what is above leads to the member, by the laws in Lowest.
+use Rattle.std.proofs.Common.{sym, arith}
+use Rattle.sets.proofs.Lowest.{lowest_from, none_from, none_past}
+use Rattle.sets.proofs.member_from.Goals as goal
+
+pub returns-then-from-ge-NUMBERS : goal.returns-then-from-ge-NUMBERS
+returns-then-from-ge-NUMBERS c = sym (none_past c.args.set c.args.from 64 (omega (arith, c.if-from-ge-NUMBERS.true)))
+
+pub returns-then-above-eq0 : goal.returns-then-above-eq0
+returns-then-above-eq0 c = sym (none_from c.args.set c.args.from 64 c.if-above-eq0.true)
+
+pub returns : goal.returns
+returns c = sym (lowest_from c.args.set c.args.from 64 c.ranges.set.fits c.if-above-eq0.false)
