@@ -3,9 +3,10 @@
  *
  *     scripts/example.sh c
  *
- * In a build of your own, on x86-64, with the library that `rt staticlib clib` makes:
+ * In a build of your own, on x86-64, with the library that `rt lib` makes in crates/clib:
  *
- *     gcc -Iinclude docs/example.c target/staticlib/libclib.a -o target/example-c
+ *     mkdir -p target
+ *     gcc -Iinclude docs/example.c crates/clib/out/libclib.a -o target/example-c
  *
  * It prints, and scripts/check-examples.sh holds it to that:
  *

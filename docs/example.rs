@@ -3,9 +3,10 @@
 //!
 //!     scripts/example.sh rs
 //!
-//! In a build of your own, on x86-64, with the library that `rt staticlib clib` makes:
+//! In a build of your own, on x86-64, with the library that `rt lib` makes in crates/clib:
 //!
-//!     rustc --edition 2021 -L target/staticlib -l static=clib docs/example.rs -o target/example-rs
+//!     mkdir -p target
+//!     rustc --edition 2021 -L crates/clib/out -l static=clib docs/example.rs -o target/example-rs
 //!
 //! It prints, and scripts/check-examples.sh holds it to that:
 //!

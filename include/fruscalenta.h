@@ -1,4 +1,4 @@
-/* The C face of the checker of replicated logs. Link libclib.a, which `rt staticlib clib` makes (x86-64 Linux). docs/LOGS.md says what a
+/* The C face of the checker of replicated logs. Link libclib.a, which `rt lib` makes in crates/clib (x86-64 Linux). docs/LOGS.md says what a
  * log is, and when each refusal is given.
  *
  * Every log of any length and content, and every table of edges with every set, gets an answer. Nothing is allocated, and nothing is kept

@@ -3,8 +3,9 @@
 # killed, and builds that cannot be. It prints a line for each failure, and `N passed, M failed` at the end.
 #
 # A real build takes minutes, so it is tried in a small checkout with a stand-in for rt, which does what matters here as the kit's rt does:
-# it writes the program in two parts, cannot use what a killed build left, does nothing where nothing changed, and has a long report where
-# it fails. It waits where it is told to, so that no check hangs on a time. A stand-in for uname says that this machine is x86-64, since
+# it works in the folder of the program's crate, leaves what it made in the out/ of the crates, writes the program in two parts and then its
+# stamp, runs the program, builds nothing where a stamp is that of the sources, and has a long report where it fails. It cannot use what a
+# killed build left. It waits where it is told to, so that no check hangs on a time. A stand-in for uname says that this machine is x86-64, since
 # the programs that it builds are scripts: `logcheck` always has the empty log's verdict, and `ask` sees only whether a log has bytes.
 . "$(dirname "$0")/checks.sh"
 from=$PWD
@@ -27,27 +28,34 @@ make_tool() { # NAME, with its lines on standard input
 
 make_tool uname <<<'cat "$CONTROL/machine"'
 make_tool rt <<'END'
-[ "$1" = check ] || exit 2
-echo "$@" >>"$CONTROL/calls"
+[ "$*" = run ] || exit 2
+name=${PWD##*/}
+echo "$* in $name" >>"$CONTROL/calls"
 if [ -e "$CONTROL/fails" ]; then seq -f 'fault %g of a long report' 30 >&2; exit "$(cat "$CONTROL/fails")"; fi
 [ -w "${TMPDIR:-/tmp}" ] || exit 2
-mkdir -p target/rlib target/stamp target/log target/bin
-for crate in $(sed -n "s/^$2://p" crates.txt) "$2"; do cat "crates/$crate/src/"*; done 2>/dev/null | cat crates.txt - >target/sources
-if cmp -s target/sources "target/stamp/$2"; then exit 0; fi
-if [ -e target/rlib/half ]; then echo "the rlib is not as it was written"; exit 2; fi
-echo proved >target/log/sets.res
-echo failed >"target/log/$2.res"
-touch target/rlib/half
-printf '#!/bin/sh\nbytes=$(wc -c)\n' >"target/bin/$2"
-touch "$CONTROL/began"
-while [ -e "$CONTROL/holds" ]; do sleep 0.1; done
-case $2 in
-logcheck) echo 'echo serial 0' ;;
-ask) echo 'if [ "$bytes" -gt 5 ]; then echo none; else echo refused 10 0; fi' ;;
-esac >>"target/bin/$2"
-chmod +x "target/bin/$2"
-rm target/rlib/half
-cp target/sources "target/stamp/$2"
+low=../sets/out/rlib
+mkdir -p out "$low"
+for crate in $(sed -n "s/^$name://p" ../../crates.txt) "$name"; do cat "../$crate/src/"*; done 2>/dev/null | cat ../../crates.txt - >out/sources
+if ! cmp -s out/sources "out/$name.stamp"; then
+    if [ -e "$low/half" ]; then echo "the kept work of sets cannot be used" >&2; exit 2; fi
+    echo 'rt: chose --jobs 2 for sets' >&2
+    touch "$low/half"
+    printf '%s' "rt: chose --jobs 2 for $name" >&2
+    printf '#!/bin/sh\nbytes=$(wc -c)\n' >"out/$name"
+    touch "$CONTROL/began"
+    echo >&2
+    while [ -e "$CONTROL/holds" ]; do sleep 0.1; done
+    if [ -e "$CONTROL/wrong" ]; then rm "$CONTROL/wrong"; echo 'echo wrong; exit'; fi >>"out/$name"
+    case $name in
+    logcheck) echo 'echo serial 0' ;;
+    ask) echo 'if [ "$bytes" -gt 5 ]; then echo none; else echo refused 10 0; fi' ;;
+    esac >>"out/$name"
+    chmod +x "out/$name"
+    mv "$low/half" "$low/stamp"
+    if [ -e "$CONTROL/edited" ]; then rm "$CONTROL/edited"; else cp out/sources "out/$name.stamp"; fi
+fi
+if [ -e "$CONTROL/runs-nothing" ]; then echo "out/$name cannot be run" >&2; exit 1; fi
+exec "out/$name"
 END
 
 # A checkout that was never used, and stand-ins that do what they should.
@@ -123,7 +131,7 @@ check_first_use() {
     built 'the first use' 1 'this takes some minutes'
     run logcheck
     built 'the second use' 1
-    echo half >"$checkout/target/bin/logcheck"
+    echo half >"$checkout/crates/logcheck/out/logcheck"
     run logcheck
     built 'a use while another build writes the program' 1
     touch "$checkout/crates/logcheck/src/main.rt"
@@ -156,13 +164,13 @@ check_both_programs() {
     new_checkout
     run logcheck --source 0
     built_ask 'the first question' 1 'this takes some minutes'
-    check 'the first question builds another program' [ "$(<"$CONTROL/calls")" = 'check ask' ]
+    check 'the first question builds another program' [ "$(<"$CONTROL/calls")" = 'run in ask' ]
     run logcheck --edge 64 0
     built_ask 'the second question' 1
     stored 0 1
     run logcheck
     built 'the first verdict after a question' 2 'up to date'
-    check 'a verdict builds another program' [ "$(tail -n 1 "$CONTROL/calls")" = 'check logcheck' ]
+    check 'a verdict builds another program' [ "$(tail -n 1 "$CONTROL/calls")" = 'run in logcheck' ]
     stored 1 1
     echo second >"$checkout/crates/ask/src/main.rt"
     run logcheck
@@ -195,18 +203,40 @@ check_half_a_question() {
     new_checkout
     run logcheck --source 0
     rm -rf "$checkout/target/command"
-    echo half >"$checkout/target/bin/ask"
+    echo half >"$checkout/crates/ask/out/ask"
     run logcheck --source 0
-    built_ask 'half a program for questions that rt finds unchanged' 3 'up to date' 'building from nothing'
+    built_ask 'half a program for questions beside its stamp' 2 'up to date'
     rm -rf "$checkout/target/command"
-    printf '#!/bin/sh\necho serial 0\n' >"$checkout/target/bin/ask"
+    touch "$CONTROL/wrong"
     run logcheck --source 0
-    built_ask 'another program in the place of the one for questions' 5 'up to date' 'building from nothing'
+    built_ask 'a program for questions that does not work' 4 'up to date' 'building from nothing'
+    rm -rf "$checkout/target/command"
+    printf '#!/bin/sh\necho serial 0\n' >"$checkout/crates/ask/out/ask"
+    chmod +x "$checkout/crates/ask/out/ask"
+    run logcheck --source 0
+    built_ask 'another program in the place of the one for questions' 5 'up to date'
     rm -rf "$checkout/target/command"
     echo 1 >"$CONTROL/fails"
-    cannot 'a build for a question that fails' 2 "'rt check ask' shows why" logcheck --source 0
+    cannot 'a build for a question that fails' 2 "crates/ask, 'rt check' shows why" logcheck --source 0
     cannot 'a wrong question, for which nothing is built' 1 'a number is missing' logcheck --source
     check 'how often a build for a question is tried that fails' lines 6 "$CONTROL/calls"
+}
+
+# rt's status is that of the program that it has run, and without a stamp nobody knows which sources it has built.
+check_what_rt_ran() {
+    new_checkout
+    touch "$CONTROL/runs-nothing"
+    run logcheck
+    built 'a program that rt has built and cannot run' 1 'this takes some minutes'
+    rm -rf "$checkout/target/command"
+    echo second >"$checkout/crates/sets/src/lib.rt"
+    rm "$CONTROL/runs-nothing"
+    echo 1 >"$CONTROL/fails"
+    cannot 'a build that fails beside the program of other sources' 2 "crates/logcheck, 'rt check' shows why" logcheck
+    rm "$CONTROL/fails"
+    touch "$CONTROL/edited"
+    run logcheck
+    built 'a source that changes during the build' 4 'up to date' 'building from nothing'
 }
 
 # Both are rt's in one folder, so a verdict waits for the build of a question, and then builds its own program.
@@ -234,7 +264,7 @@ check_both_at_once() {
     stored 1 1
 }
 
-# A ./test removes target/ just before a program is to run; the stand-in for the emulator does that. A pipe cannot be read twice, and the
+# Somebody removes target/ just before a program is to run; the stand-in for the emulator does that. A pipe cannot be read twice, and the
 # log in it must be there all the same.
 check_removed_program() {
     new_checkout
@@ -248,11 +278,11 @@ END
     run logcheck --source 0
     touch "$CONTROL/removes"
     run piped --source 0
-    built_for "$room/a-record" 'a question whose program is removed before it runs' 2 'this takes some minutes'
+    built_for "$room/a-record" 'a question whose program is removed before it runs' 2 'up to date'
     run logcheck
     touch "$CONTROL/removes"
     run piped
-    built 'a verdict whose program is removed before it runs' 4 'this takes some minutes'
+    built 'a verdict whose program is removed before it runs' 4 'up to date'
     rm "$tools/"{dpkg-query,qemu-x86_64}
 }
 
@@ -292,9 +322,9 @@ check_killed_build() {
     built 'the use after a build that was killed' 3 'this takes some minutes' 'building from nothing'
     check "the use after a build that was killed removes cargo's files" [ -d "$checkout/target/rust" ]
     rm -rf "$checkout/target/command"
-    echo half >"$checkout/target/bin/logcheck"
+    touch "$CONTROL/wrong"
     run logcheck
-    built 'half a program that rt finds unchanged' 5 'up to date' 'building from nothing'
+    built 'a program that does not work' 5 'up to date' 'building from nothing'
 }
 
 # Where only the command was killed, its rt goes on, and the next use must not write beside it.
@@ -338,13 +368,13 @@ check_failures() {
     local status_of_rt
     new_checkout
     echo 1 >"$CONTROL/fails"
-    cannot 'a first build that fails' 2 "'rt check logcheck' shows why" logcheck
+    cannot 'a first build that fails' 2 "crates/logcheck, 'rt check' shows why" logcheck
     for status_of_rt in 1 3 2; do # the last one is of rt itself
         new_checkout
         run logcheck
         rm -rf "$checkout/target/command"
         echo "$status_of_rt" >"$CONTROL/fails"
-        cannot "a build that fails with status $status_of_rt" $((2 + (status_of_rt == 2))) "'rt check logcheck' shows why" logcheck
+        cannot "a build that fails with status $status_of_rt" $((2 + (status_of_rt == 2))) "crates/logcheck, 'rt check' shows why" logcheck
         check "how often a build is tried that fails with status $status_of_rt" lines $((2 + (status_of_rt == 2))) "$CONTROL/calls"
     done
     rm "$CONTROL/fails"
@@ -408,6 +438,7 @@ END
 check_first_use
 check_both_programs
 check_half_a_question
+check_what_rt_ran
 check_both_at_once
 check_removed_program
 check_three_at_once

@@ -40,6 +40,7 @@ refused() { # ARGUMENTS ..
 
 check 'the tools for x86-64 are not there' x86_setup
 check 'there is no library to link' x86_library
+mkdir -p target # as the comments have it
 before=$(ls -A)
 check 'docs/example.c, by the command of its comment' by_command c
 check 'docs/example.rs, by the command of its comment' by_command rs

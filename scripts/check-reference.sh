@@ -9,7 +9,7 @@
 #   blocks    a line `    $ ./logcheck --text 'HISTORY'`, and below it what is printed; a question, as `--source 4` or `--edge 1 2`, may
 #             stand before --text
 #   dump      rows of a record's number, its 4 bytes in hexadecimal, its operation, its first byte's place, and its copy number or none
-# What is printed must be the same, and the status that of the answer. The calls want target/staticlib/libclib.a. It prints a line for each
+# What is printed must be the same, and the status that of the answer. The calls want crates/clib/out/libclib.a. It prints a line for each
 # failure, and `N passed, M failed` at the end.
 . "$(dirname "$0")/checks.sh"
 . scripts/x86-64.sh

@@ -21,6 +21,7 @@ rs) compiler=$x86_rustc_name ;;
 *) fail 'it takes one argument: c for docs/example.c, or rs for docs/example.rs' ;;
 esac
 program=target/example-$1
+mkdir -p target || exit 2
 x86_setup >&2 || exit 2
 command -v "$compiler" >/dev/null || fail "the compiler $compiler is not on this machine"
 x86_library || exit 2

@@ -2,7 +2,7 @@
 #   take_lock NAME               waits until no other build goes on here; where it has to wait, NAME says so on standard error
 #   free_lock                    lets the next one build
 #   under_lock NAME COMMAND ..   runs a command with the lock, and has its status
-# The lock is flock's, on the folder itself. It leaves nothing behind, `rt ci`, which removes target/, does not remove it, and it ends with
+# The lock is flock's, on the folder itself. It leaves nothing behind, rt's own locks are on other folders, and it ends with
 # the last process that has it open. Those that a command starts under it have it open as well: where a ./logcheck is killed and its rt
 # goes on, the next one waits for that rt. So nothing that outlives its build may be started under the lock.
 # shellcheck shell=bash

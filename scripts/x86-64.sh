@@ -58,9 +58,9 @@ else
         RUSTC=/usr/bin/rustc CARGO_BUILD_TARGET=$x86_target CARGO_TARGET_DIR=target/rust \
             CARGO_TARGET_X86_64_UNKNOWN_LINUX_GNU_LINKER=x86_64-linux-gnu-gcc /usr/bin/cargo "$@"
     }
-    # A plain processor: the C library then fills memory by ordinary stores, which the emulator runs ten times as fast as the
-    # string instruction that it would choose for a newer one.
-    x86_run() { qemu-x86_64 -cpu qemu64 "$@"; }
+    # The plainest processor that has what the kit builds for, x86-64-v2: the C library then fills memory by ordinary stores, which the
+    # emulator runs ten times as fast as the string instruction that it would choose for a newer one.
+    x86_run() { qemu-x86_64 -cpu Nehalem "$@"; }
 fi
 
 x86_built() { echo "target/rust/$x86_target/release"; }
