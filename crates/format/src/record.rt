@@ -64,6 +64,7 @@ pub struct Record {
 }
 
 // How many whole records the log has.
+#[tactic(auto, unfolding(rules::specs::Record::records))]
 pub fn record_count(log: &[u8]) -> usize
     ensures { result ≡ records log.now }
 {
@@ -71,6 +72,7 @@ pub fn record_count(log: &[u8]) -> usize
 }
 
 // The record at place k.
+#[tactic(auto, unfolding(rules::specs::Record::records, rules::specs::Record::kind, rules::specs::Record::transaction, rules::specs::Record::item, rules::specs::Record::site))]
 pub fn record_at(log: &[u8], k: usize) -> Record
     requires { k < records log.now }
     ensures { (result.kind ≡ kind log.now k)
