@@ -7,8 +7,8 @@ ghost use Rattle.clib.specs.Promises.{ChecksInC, TellsSourceInC, TellsEdgeInC, S
 
 use edges::graph::Edge;
 use format::record::MOST_RECORDS;
-use log::check::check;
-use log::source::SourceAnswer;
+use checked_log::check::check;
+use checked_log::source::SourceAnswer;
 use refusals::refusal::{Checked, Refusal};
 use sets::NUMBERS;
 use sort::{Sorted, sort};

@@ -10,7 +10,7 @@ ghost use Rattle.edges.specs.Promises.{GivesGraph, TellsEdge};
 
 use conflicts::conflicts;
 use format::record::{Copy, TRANSACTIONS};
-use log::check::check;
+use checked_log::check::check;
 use orders::order::keep_order;
 use orders::reasons::order_edges;
 use refusals::refusal::{Checked, Refusal};

@@ -2,7 +2,7 @@
 ghost use Rattle.questions.specs.Promises.{PrintsSource, PrintsEdge};
 
 use edges::graph::{Edge, edge_between};
-use log::source::{SourceAnswer, source_of_record};
+use checked_log::source::{SourceAnswer, source_of_record};
 use printing::line::{put_numbers, put_refusal};
 use printing::put::{TEXT, put_bytes};
 

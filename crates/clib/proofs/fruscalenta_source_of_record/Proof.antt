@@ -3,7 +3,7 @@ use borrow.Author.Rules.{rules}
 use Prim.Native.Nat.{ℕ}
 use mathlib.Core.Path.{◌∙◌, sym, ap, ap₂}
 use Rattle.rules.specs.Answer.{refused}
-use Rattle.log.specs.Numbers.{source_says}
+use Rattle.checked_log.specs.Numbers.{source_says}
 use Rattle.clib.specs.Coding.{coded_source}
 use Rattle.clib.proofs.fruscalenta_source_of_record.Statement.{statement}
 use Rattle.clib.proofs.fruscalenta_source_of_record.Tie as tie

@@ -12,7 +12,7 @@ use Rattle.histories.proofs.Reasons.{read_gives, sourceless_gives}
 use Rattle.histories.proofs.Sources.{sourced}
 use Rattle.rules.specs.LogHistory.{history_of}
 use Rattle.rules.specs.Record.{item}
-use Rattle.log.specs.Numbers.{found_says}
+use Rattle.checked_log.specs.Numbers.{found_says}
 use Rattle.orders.proofs.reasons.after_by_read.Statement.{statement}
 use Rattle.orders.proofs.reasons.after_by_read.Tie as tie
 

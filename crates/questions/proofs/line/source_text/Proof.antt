@@ -4,8 +4,8 @@ use mathlib.Core.Path.{◌≡◌, sym, ◌∙◌, ap}
 use mathlib.Core.Bool.{true}
 use mathlib.Core.List.{◌++◌}
 use Rattle.refusals.specs.Numbers.{number_of, place_of}
-use Rattle.log.specs.Numbers.{source_says, told_source}
-use Rattle.log.specs.declared.source.SourceAnswer.{SourceAnswer}
+use Rattle.checked_log.specs.Numbers.{source_says, told_source}
+use Rattle.checked_log.specs.declared.source.SourceAnswer.{SourceAnswer}
 use Rattle.printing.specs.Lines.{newline}
 use Rattle.printing.proofs.Lines.{numbers_fit, numbers_whole, refusal_whole}
 use Rattle.printing.proofs.Puts.{whole}

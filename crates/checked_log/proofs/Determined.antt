@@ -1,5 +1,5 @@
 -- The promises determine the answers of a check and of the question of a source.
-use Prim.Native.Nat.{ℕ, suc, ◌-◌}
+use Prim.Native.Nat.{ℕ, suc}
 use native.Mathlib.Omega.{arith}
 use mathlib.Core.Path.{◌≡◌, refl, sym, ◌∙◌, ap, ap₂}
 use mathlib.Core.List.{List}
@@ -9,13 +9,13 @@ use Rattle.rules.specs.Answer.{Answer, gives, refused}
 use Rattle.rules.proofs.Answers.{said_number, said_place}
 use Rattle.refusals.specs.declared.refusal.Checked.{Checked}
 use Rattle.refusals.proofs.Determined.{same_refusal, no_zero, same_checked}
-use Rattle.log.specs.Numbers.{source_says, found_says}
-use Rattle.log.specs.Promises.{ChecksLength, ChecksContent, ChecksLog, FindsSource, TellsSource}
-use Rattle.log.specs.declared.source.Found.{Found}
-use Rattle.log.specs.declared.source.Found.TheVariants.{At, None as NoneFound}
-use Rattle.log.specs.declared.source.Source.{Source as Told}
-use Rattle.log.specs.declared.source.SourceAnswer.{SourceAnswer}
-use Rattle.log.specs.declared.source.SourceAnswer.TheVariants.{Of, None, Refused as SourceRefused}
+use Rattle.checked_log.specs.Numbers.{source_says, found_says}
+use Rattle.checked_log.specs.Promises.{ChecksLength, ChecksContent, ChecksLog, FindsSource, TellsSource}
+use Rattle.checked_log.specs.declared.source.Found.{Found}
+use Rattle.checked_log.specs.declared.source.Found.TheVariants.{At, None as NoneFound}
+use Rattle.checked_log.specs.declared.source.Source.{Source as Told}
+use Rattle.checked_log.specs.declared.source.SourceAnswer.{SourceAnswer}
+use Rattle.checked_log.specs.declared.source.SourceAnswer.TheVariants.{Of, None, Refused as SourceRefused}
 
 -- what a source's answer holds: its transaction and its place, each with one added, or 0 for none
 abbrev said_transaction : Answer (Option Source) → ℕ

@@ -7,9 +7,9 @@ use Rattle.histories.specs.Source.{source_record}
 use Rattle.rules.specs.LogHistory.{history_of}
 use Rattle.rules.specs.Questions.{source_answer}
 use Rattle.rules.specs.Refusals.{length_answer, content_answer, check_answer}
-use Rattle.log.specs.Numbers.{found_says, source_says}
-use Rattle.log.specs.declared.source.Found.{Found}
-use Rattle.log.specs.declared.source.SourceAnswer.{SourceAnswer}
+use Rattle.checked_log.specs.Numbers.{found_says, source_says}
+use Rattle.checked_log.specs.declared.source.Found.{Found}
+use Rattle.checked_log.specs.declared.source.SourceAnswer.{SourceAnswer}
 
 -- `length_answer`: numbers 1 and 2
 abbrev pub ChecksLength : List ℕ → Checked → Type 0

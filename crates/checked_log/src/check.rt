@@ -4,7 +4,7 @@ ghost use Rattle.rules.specs.Record.{records};
 ghost use Rattle.rules.specs.Refusals.{record_rows, end_rows};
 ghost use Rattle.rules.specs.Rows.{answer_of};
 ghost use Rattle.refusals.specs.Numbers.{checked_says};
-ghost use Rattle.log.specs.Promises.{ChecksLength, ChecksContent, ChecksLog};
+ghost use Rattle.checked_log.specs.Promises.{ChecksLength, ChecksContent, ChecksLog};
 ghost use Rattle.kept.specs.Kept.{KeptCopies, KeptItems, KeptCommits, KeptNames};
 
 use format::record::{Copy, MOST_BYTES, RECORD_BYTES, TRANSACTIONS, record_at, record_count};
@@ -40,7 +40,7 @@ fn record_answer(
     item_writers: &[u64; Copy::ITEMS],
     committed: u64,
 ) -> Checked
-    requires k_bound { k < records log.now }
+    requires there { k < records log.now }
     requires kept_copies { KeptCopies log.now k copy_writers.now }
     requires kept_items { KeptItems log.now k item_writers.now }
     requires kept_commits { KeptCommits log.now k committed }

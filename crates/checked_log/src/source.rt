@@ -4,7 +4,7 @@ ghost use Rattle.histories.specs.Source.{shows};
 ghost use Rattle.rules.specs.LogHistory.{history_of};
 ghost use Rattle.rules.specs.Record.{Within, records};
 ghost use Rattle.rules.specs.Passes.{InLimits};
-ghost use Rattle.log.specs.Promises.{FindsSource, TellsSource};
+ghost use Rattle.checked_log.specs.Promises.{FindsSource, TellsSource};
 
 use crate::check::check;
 use format::record::{READ, WRITE, copy_at, kind_at, record_at, record_count};
@@ -34,8 +34,8 @@ pub enum SourceAnswer {
 
 // Whether record e is a write of the copy that record k names. Few name it, so that is asked first.
 fn writes_copy_of(log: &[u8], e: usize, k: usize) -> bool
-    requires within { Within log.now e }
-    requires within_2 { Within log.now k }
+    requires within_e { Within log.now e }
+    requires within_k { Within log.now k }
     ensures { result ≡ shows (history_of log.now) k e }
 {
     if copy_at(log, e) != copy_at(log, k) {
@@ -48,7 +48,7 @@ fn writes_copy_of(log: &[u8], e: usize, k: usize) -> bool
 // writes its copy. Walks back over the records between.
 pub fn source_record(log: &[u8], k: usize) -> Found
     requires in_limits { InLimits log.now }
-    requires k_bound { k < records log.now }
+    requires there { k < records log.now }
     ensures { FindsSource log.now k result }
 {
     if kind_at(log, k) != READ {

@@ -4,11 +4,11 @@ use Rattle.std.proofs.Math.Option.{Option, none, some}
 use Rattle.histories.specs.Source.{Source}
 use Rattle.rules.specs.Answer.{Answer, gives, refused}
 use Rattle.refusals.specs.Numbers.{number_of, place_of}
-use Rattle.log.specs.declared.source.Found.{Found}
-use Rattle.log.specs.declared.source.Found.TheVariants.{At, None as NoneFound}
-use Rattle.log.specs.declared.source.Source.{Source as Told}
-use Rattle.log.specs.declared.source.SourceAnswer.{SourceAnswer}
-use Rattle.log.specs.declared.source.SourceAnswer.TheVariants.{Of, None, Refused as SourceRefused}
+use Rattle.checked_log.specs.declared.source.Found.{Found}
+use Rattle.checked_log.specs.declared.source.Found.TheVariants.{At, None as NoneFound}
+use Rattle.checked_log.specs.declared.source.Source.{Source as Told}
+use Rattle.checked_log.specs.declared.source.SourceAnswer.{SourceAnswer}
+use Rattle.checked_log.specs.declared.source.SourceAnswer.TheVariants.{Of, None, Refused as SourceRefused}
 
 -- the two numbers that are told
 abbrev pub told_source : Told → Source
