@@ -38,9 +38,9 @@ fn checked(log: &[u8], room: usize) -> Checked
 // The verdict on a log that passes. The sort works in arrays of its own, so that nothing is written before the answer is whole.
 fn ordered(log: &[u8], answer: &mut [u8]) -> Verdict
     requires passes { Passes log.now }
-    requires most_answer_in_bounds { most_answer ≤ length answer.old }
-    ensures result_value { verdict_says result ≡ how_many (gives (line_or_cycle log.now)) }
-    ensures answer_after { answer.new ≡ sets answer.old 0 (answer_records log.now (gives (line_or_cycle log.now))) }
+    requires room { most_answer ≤ length answer.old }
+    ensures says { verdict_says result ≡ how_many (gives (line_or_cycle log.now)) }
+    ensures written { answer.new ≡ sets answer.old 0 (answer_records log.now (gives (line_or_cycle log.now))) }
 {
     let mut by_conflict = [0u64; TRANSACTIONS];
     let mut by_order = [0u64; TRANSACTIONS];
