@@ -1,5 +1,7 @@
 // The sort: the smallest line of a set of transactions that keeps every edge of a table, or a cycle of its edges. It knows tables of
 // edges and sets, and no logs. The line is placed here; the cycle is walked and written by `cycles`.
+#![tactic(auto)]
+
 ghost use Rattle.sort.specs.Promises.{SortsTable};
 
 mod line;
