@@ -9,8 +9,8 @@ ghost use Rattle.tables.specs.Kept.{Empty};
 ghost use Rattle.orders.specs.Kept.{KeptOrder};
 
 use crate::order::writers_after;
-use format::record::{Copy, TRANSACTIONS, WRITE, kind_at, record_count, transaction_at};
 use checked_log::source::{Found, source_record};
+use format::record::{Copy, TRANSACTIONS, WRITE, kind_at, record_count, transaction_at};
 use tables::add::add_to_row;
 
 // The transactions that record k puts after its own by reason 2.

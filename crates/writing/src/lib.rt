@@ -1,4 +1,6 @@
 // Answer records: the reasons along a cycle, and how the records are written into a buffer that is lent, two bytes each.
+#![tactic(auto)]
+
 ghost use Rattle.std.specs.Prelude.{◌≤◌, ◌≡◌, length};
 ghost use Rattle.std.proofs.lemmas.List.Edits.{sets};
 ghost use Rattle.rules.specs.Record.{transactions};
