@@ -8,9 +8,9 @@ ghost use Rattle.rules.specs.Record.{transactions};
 ghost use Rattle.rules.specs.Passes.{Passes};
 ghost use Rattle.edges.specs.Promises.{GivesGraph, TellsEdge};
 
+use checked_log::check::check;
 use conflicts::conflicts;
 use format::record::{Copy, TRANSACTIONS};
-use checked_log::check::check;
 use orders::order::keep_order;
 use orders::reasons::order_edges;
 use refusals::refusal::{Checked, Refusal};
