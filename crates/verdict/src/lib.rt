@@ -1,4 +1,6 @@
 // The verdict on a log: a serial line, a cycle with its reasons, or a refusal. The two questions stand beside it.
+#![tactic(auto)]
+
 ghost use Rattle.std.specs.Prelude.{◌≡◌, length, ◌≤◌};
 ghost use Rattle.std.proofs.lemmas.List.Edits.{sets};
 ghost use Rattle.rules.specs.Answer.{passed, gives};
@@ -11,11 +13,11 @@ ghost use Rattle.verdict.specs.Promises.{JudgesLog};
 pub mod answer;
 
 use crate::answer::Verdict;
+use checked_log::check::{content_answer, length_answer};
+pub use checked_log::source::source_of_record;
 pub use edges::graph::edge_between;
 use edges::graph::edges_by_reason;
 use format::record::TRANSACTIONS;
-use checked_log::check::{content_answer, length_answer};
-pub use checked_log::source::source_of_record;
 use refusals::refusal::{Checked, Refusal};
 use sort::{Sorted, sort};
 use tables::reasons::joined;
