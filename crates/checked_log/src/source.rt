@@ -11,21 +11,21 @@ use format::record::{READ, WRITE, copy_at, kind_at, record_at, record_count};
 use refusals::refusal::{Checked, Refusal};
 
 // A record's place, or none.
-#[derive(Drop)]
+#[derive(Clone, Copy)]
 pub enum Found {
     At(usize),
     None,
 }
 
 // The source of a read: the transaction, and the place of its write record.
-#[derive(Drop)]
+#[derive(Clone, Copy)]
 pub struct Source {
     pub transaction: u8,
     pub place: usize,
 }
 
 // The answer to the question: the source, none for a write or a commit, or a refusal.
-#[derive(Drop)]
+#[derive(Clone, Copy)]
 pub enum SourceAnswer {
     Of(Source),
     None,

@@ -10,7 +10,7 @@ use crate::part::{place_of, place_of_lowest, write_part};
 use sets::NUMBERS;
 
 // Where the path of a walk starts in its buffer, and the transaction that came again.
-#[derive(Drop)]
+#[derive(Clone, Copy)]
 struct Walked {
     at: usize,
     again: u8,

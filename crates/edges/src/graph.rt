@@ -17,14 +17,14 @@ use refusals::refusal::{Checked, Refusal};
 use tables::reasons::{joined, lowest_reason};
 
 // The graph of a log: the set of its transactions, or a refusal. Its edges are in the table that was lent.
-#[derive(Drop)]
+#[derive(Clone, Copy)]
 pub enum Graph {
     Of(u64),
     Refused(Refusal),
 }
 
 // The answer to the question: a reason, 0 where there is no edge; or a refusal.
-#[derive(Drop)]
+#[derive(Clone, Copy)]
 pub enum Edge {
     Reason(u8),
     Refused(Refusal),

@@ -21,7 +21,7 @@ pub const TRANSACTIONS: usize = 64;
 pub const LAST_TRANSACTION: u8 = (TRANSACTIONS - 1) as u8;
 
 // A copy is an item at a site, each within its limit.
-#[derive(Drop)]
+#[derive(Clone, Copy)]
 pub struct Copy {
     pub item: u8,
     pub site: u8,
@@ -55,7 +55,7 @@ impl Copy {
 }
 
 // A record, as its bytes stand in the log.
-#[derive(Drop)]
+#[derive(Clone, Copy)]
 pub struct Record {
     pub kind: u8,
     pub transaction: u8,

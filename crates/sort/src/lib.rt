@@ -13,7 +13,7 @@ use cycles::part::write_part;
 use sets::NUMBERS;
 
 // A line or a cycle, and how many members it has. They are in the buffer that was lent.
-#[derive(Drop)]
+#[derive(Clone, Copy)]
 pub enum Sorted {
     Line(usize),
     Cycle(usize),

@@ -7,7 +7,7 @@ ghost use Rattle.sort.specs.Promises.{FindsReady};
 use sets::NUMBERS;
 
 // The transaction that is ready, or none.
-#[derive(Drop)]
+#[derive(Clone, Copy)]
 pub enum Ready {
     At(usize),
     None,

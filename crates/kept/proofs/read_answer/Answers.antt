@@ -1,7 +1,6 @@
 -- `kept::read_answer` meets its contract: each look at a set is the test of one number, and the answer is that of the first
 -- that holds.
 use Rattle.std.proofs.Common.{Bool, List, false, get_or, not, refl, sym, true, ℕ, ◌&&◌, ◌∙◌, ◌≡◌}
-use borrow.Author.Tests.{not-true, not-false}
 use Rattle.sets.specs.Bits.{has}
 use Rattle.histories.specs.Faults.{reads_unwritten, reads_past_own}
 use Rattle.rules.specs.LogHistory.{history_of}
@@ -51,16 +50,16 @@ pub returns-then-not-has_member : goal.returns-then-not-has_member
 returns-then-not-has_member c =
     let here = (goal.at.returns-then-not-has_member c).After-item_at-x in
     sym (gives_none (history_of c.args.log.now) c.args.k (said_not_7 here c.if-writers-eq0.false)
-    (said_8 here false (has (copy_set here) c.transaction_at-t.result) (sym c.has_member.ensures ∙ not-true _ c.if-not-has_member.true-raw) refl))
+    (said_8 here false (has (copy_set here) c.transaction_at-t.result) (sym c.has_member.ensures ∙ c.if-not-has_member.true) refl))
 
 pub returns-then-has_member : goal.returns-then-has_member
 returns-then-has_member c =
     let here = (goal.at.returns-then-has_member c).After-item_at-x in
     sym (gives_none (history_of c.args.log.now) c.args.k (said_not_7 here c.if-writers-eq0.false)
-    (said_8 here true true (sym c.has_member.ensures ∙ not-false _ c.if-not-has_member.false-raw) (sym c.has_member-2.ensures ∙ c.if-has_member.true)))
+    (said_8 here true true (sym c.has_member.ensures ∙ c.if-not-has_member.false) (sym c.has_member-2.ensures ∙ c.if-has_member.true)))
 
 pub returns : goal.returns
 returns c =
     let here = (goal.at.returns c).After-item_at-x in
     sym (gives_8 (history_of c.args.log.now) c.args.k (said_not_7 here c.if-writers-eq0.false)
-    (said_8 here true false (sym c.has_member.ensures ∙ not-false _ c.if-not-has_member.false-raw) (sym c.has_member-2.ensures ∙ c.if-has_member.false)))
+    (said_8 here true false (sym c.has_member.ensures ∙ c.if-not-has_member.false) (sym c.has_member-2.ensures ∙ c.if-has_member.false)))
