@@ -7,10 +7,10 @@ ghost use Rattle.refusals.specs.Numbers.{number_of, place_of};
 ghost use Rattle.clib.specs.Coding.{coded_refusal};
 ghost use Rattle.clib.specs.Promises.{ChecksInC, TellsSourceInC, TellsEdgeInC, SortsInC, JudgesInC};
 
-use edges::graph::Edge;
-use format::record::MOST_RECORDS;
 use checked_log::check::check;
 use checked_log::source::SourceAnswer;
+use edges::graph::Edge;
+use format::record::MOST_RECORDS;
 use refusals::refusal::{Checked, Refusal};
 use sets::NUMBERS;
 use sort::{Sorted, sort};
