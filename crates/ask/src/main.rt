@@ -3,24 +3,25 @@
 // `asked_text` says how a question stands in bytes. Of the log it reads one byte past the limit, as the release program does. Where the input
 // cannot be read or has no whole question, it says so on standard error and prints no answer. Where the answer cannot be written, it says so
 // too, and part of the answer may have been written. Its exit status is 0 in any case.
+#![tactic(auto)]
+
 ghost use Rattle.std.specs.Prelude.{length, ◌≡◌};
 
 use format::record::MOST_BYTES;
-use libc::{STDERR_FILENO, STDOUT_FILENO};
 use printing::put::TEXT;
 use questions::asked::{HEAD, asked_text};
 use reading::read_input;
 
 const ROOM: usize = HEAD + MOST_BYTES + 1;
 
-fn main() {
+fn main(rt: HostRuntime) {
     let mut input = cleared();
-    let read = read_input(&mut input);
+    let read = read_input(&mut rt.stdin(), &mut input);
     let n = read.count;
     if read.failed {
-        io::write_all(STDERR_FILENO, b"ask: cannot read the question\n");
+        let _ = eprintln!(rt; "ask: cannot read the question");
     } else {
-        print_answer(&input[..n]);
+        print_answer(&rt, &input[..n]);
     }
 }
 
@@ -31,14 +32,14 @@ fn cleared() -> [u8; ROOM]
     [0; ROOM]
 }
 
-fn print_answer(input: &[u8]) {
+fn print_answer(rt: &(impl Print + Eprint), input: &[u8]) {
     if input.len() < HEAD {
-        io::write_all(STDERR_FILENO, b"ask: the question is not whole\n");
+        let _ = eprintln!(rt; "ask: the question is not whole");
         return;
     }
     let mut text = [0u8; TEXT];
     let n = asked_text(input, &mut text);
-    if !io::write_all(STDOUT_FILENO, &text[..n]) {
-        io::write_all(STDERR_FILENO, b"ask: cannot write the answer\n");
+    if rt.write_all(&text[..n]).is_err() {
+        let _ = eprintln!(rt; "ask: cannot write the answer");
     }
 }

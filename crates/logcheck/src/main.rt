@@ -2,25 +2,26 @@
 //
 // It reads one byte past the limit, so that a log that is too long is refused as such and not judged by its front. Where the log cannot be
 // read, it says so on standard error and prints no answer. Where the answer cannot be written, it says so too, and part of the answer may have
-// been written. A Rattle program has no exit status of its own, so it is 0 in any case.
+// been written. Its exit status is 0 in any case.
+#![tactic(auto)]
+
 ghost use Rattle.std.specs.Prelude.{length, ◌≡◌};
 
 use format::record::MOST_BYTES;
-use libc::{STDERR_FILENO, STDOUT_FILENO};
 use printing::put::TEXT;
 use reading::read_input;
 use text::log_text;
 
 const ROOM: usize = MOST_BYTES + 1;
 
-fn main() {
+fn main(rt: HostRuntime) {
     let mut log = cleared();
-    let input = read_input(&mut log);
+    let input = read_input(&mut rt.stdin(), &mut log);
     let n = input.count;
     if input.failed {
-        io::write_all(STDERR_FILENO, b"logcheck: cannot read the log\n");
+        let _ = eprintln!(rt; "logcheck: cannot read the log");
     } else {
-        print_answer(&log[..n]);
+        print_answer(&rt, &log[..n]);
     }
 }
 
@@ -31,10 +32,10 @@ fn cleared() -> [u8; ROOM]
     [0; ROOM]
 }
 
-fn print_answer(log: &[u8]) {
+fn print_answer(rt: &(impl Print + Eprint), log: &[u8]) {
     let mut text = [0u8; TEXT];
     let n = log_text(log, &mut text);
-    if !io::write_all(STDOUT_FILENO, &text[..n]) {
-        io::write_all(STDERR_FILENO, b"logcheck: cannot write the answer\n");
+    if rt.write_all(&text[..n]).is_err() {
+        let _ = eprintln!(rt; "logcheck: cannot write the answer");
     }
 }

@@ -4,12 +4,17 @@
 // The stack stands on standard input. For each log it holds the log's length and the answer buffer's, two bytes each, the low one first,
 // and then the log's bytes. Both the stack (crates/trial/stdin) and the answers that the gate holds this program to (crates/trial/stdout) are
 // made by the second checker: second/src/bin/trial_stack says how.
-ghost use Rattle.std.specs.Prelude.{◌+◌, ◌≤◌, ◌<◌, length};
+#![tactic(auto)]
+
+ghost use Rattle.std.specs.Prelude.{◌+◌, ◌≤◌, ◌<◌, ◌≡◌, length};
 ghost use Rattle.trial.specs.Stack.{header_size};
 
-use libc::{STDIN_FILENO, STDOUT_FILENO};
 use printing::put::TEXT;
+use reading::read_input;
 use text::judged_text;
+
+// The longest stack: no more of it is read.
+const MOST_STACK: usize = 65536;
 
 // The bytes before a log: the two lengths.
 const HEADER_SIZE: usize = 4;
@@ -17,26 +22,33 @@ const HEADER_SIZE: usize = 4;
 // The longest answer buffer that is lent.
 const MOST_ROOM: usize = 400;
 
-fn main() {
-    let mut stack = io::large_buffer();
-    let n = io::read_full(STDIN_FILENO, &mut stack);
-    run(&stack[..n], &mut [0u8; MOST_ROOM]);
+fn main(rt: HostRuntime) {
+    let mut stack = cleared();
+    let n = read_input(&mut rt.stdin(), &mut stack).count;
+    run(&rt, &stack[..n], &mut [0u8; MOST_ROOM]);
+}
+
+// A function of its own, so that no proof has to look at each of the bytes.
+fn cleared() -> [u8; MOST_STACK]
+    ensures { 65536 ≡ length result }
+{
+    [0; MOST_STACK]
 }
 
 // Judges the logs of a stack in turn. They share the answer buffer, so that each finds in it what the one before has left.
-fn run(stack: &[u8], answer: &mut [u8]) {
+fn run(rt: &impl Print, stack: &[u8], answer: &mut [u8]) {
     let mut at = 0;
     let mut k: u64 = 0;
     while at < stack.len() {
         let end = log_end(stack, at);
         if stack.len() < end {
-            print_line(b"trial: the stack ends inside log ", k);
+            print_line(rt, "trial: the stack ends inside log ", k);
             break;
         }
-        print_line(b"log ", k);
+        print_line(rt, "log ", k);
         let room = least(number_at(stack, at + 2), answer.len());
         let start = at + HEADER_SIZE;
-        print_answer(&stack[start..end], &mut answer[..room]);
+        print_answer(rt, &stack[start..end], &mut answer[..room]);
         at = end;
         k += 1;
     }
@@ -75,14 +87,12 @@ fn least(a: usize, b: usize) -> usize
     if a < b { a } else { b }
 }
 
-fn print_line(words: &[u8], k: u64) {
-    io::write_all(STDOUT_FILENO, words);
-    io::print_decimal(STDOUT_FILENO, k);
-    io::write_all(STDOUT_FILENO, b"\n");
+fn print_line(rt: &impl Print, words: &str, k: u64) {
+    let _ = println!(rt; "{words}{k}");
 }
 
-fn print_answer(log: &[u8], answer: &mut [u8]) {
+fn print_answer(rt: &impl Print, log: &[u8], answer: &mut [u8]) {
     let mut text = [0u8; TEXT];
     let n = judged_text(log, answer, &mut text);
-    io::write_all(STDOUT_FILENO, &text[..n]);
+    let _ = rt.write_all(&text[..n]);
 }
