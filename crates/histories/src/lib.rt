@@ -1,1 +1,3 @@
+#![tactic(auto)]
+
 // No functions: what a history is, its sources, write order, reasons and edges, what the chapter asks of a graph, and the theorems.
