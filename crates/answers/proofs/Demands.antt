@@ -3,8 +3,8 @@ use Prim.Native.Nat.{ℕ, ◌+◌, ◌*◌, ◌<◌, ◌≤◌}
 use native.Mathlib.Omega.{arith}
 use mathlib.Core.Path.{◌≡◌, refl, sym, ◌∙◌, ap, ap₂, subst, subst₂}
 use mathlib.Core.Bool.{true}
-use mathlib.Core.List.{List, [], ◌∷◌, ◌++◌}
-use mathlib.Core.Logic.{◌⊎◌, inl, inr, ⊎_elim, ◌↔◌}
+use mathlib.Core.List.{List, ◌++◌}
+use mathlib.Core.Logic.{◌↔◌}
 use lib.ListN.{length, drop, get_or-append}
 use lib.Seq.{sets}
 use Rattle.sets.specs.Bits.{has, in_row}
@@ -32,7 +32,7 @@ use Rattle.serial.specs.Serial.{SerialLine}
 use Rattle.serial.specs.Explains.{ExplainsByLine, ExplainsByCycle}
 use Rattle.serial.proofs.Explained.{by_line, by_cycle, line_exactly, cycle_exactly, acyclic_exactly}
 use Rattle.answers.specs.Verdict.{record_size, most_answer, entry, pairs, round_to, verdict_rows, verdict_check, line_or_cycle, verdict_answer}
-use Rattle.answers.specs.Verdict.{line_records, cycle_records, answer_records, how_many, LeavesRecords, Judged}
+use Rattle.answers.specs.Verdict.{line_records, cycle_records, answer_records, Judged}
 use Rattle.answers.specs.Demands.{Demand1, Demand2, Demand3, LineGiven, CycleGiven, GraphExactly}
 use Rattle.answers.proofs.VerdictRows.{none_of_log, none_with_room, answer_refused, answer_given, how_many_said}
 use Rattle.answers.proofs.AnswerRecords.{length_pairs, pairs_bytes, round_low, cycle_records_are, records_long, verdict_written}

@@ -12,7 +12,7 @@ use Rattle.rules.specs.Refusals.{length_rows, content_rows, log_rows, length_ans
 use Rattle.rules.specs.Passes.{Passes}
 use Rattle.rules.proofs.Rows.{passes_exactly, append_passed, append_refused, row_applies, row_skipped, none_here, none_later, none_with, none_left, none_right, none_both}
 use Rattle.rules.proofs.PassedLogs.{none_passes}
-use Rattle.lines.specs.Rule.{LineOrCycle, length_of}
+use Rattle.lines.specs.Rule.{length_of}
 use Rattle.answers.specs.Verdict.{most_answer, short_buffer, verdict_rows, verdict_check, line_or_cycle, verdict_answer, how_many}
 
 -- too little room, or enough

@@ -1,14 +1,16 @@
 // The C face of the checker: exports on byte slices, tables and plain numbers, thin over the crates below. include/fruscalenta.h declares
 // them.
+#![tactic(auto)]
+
 ghost use Rattle.std.specs.Prelude.{◌≡◌};
 ghost use Rattle.refusals.specs.Numbers.{number_of, place_of};
 ghost use Rattle.clib.specs.Coding.{coded_refusal};
 ghost use Rattle.clib.specs.Promises.{ChecksInC, TellsSourceInC, TellsEdgeInC, SortsInC, JudgesInC};
 
+use checked_log::check::check;
+use checked_log::source::SourceAnswer;
 use edges::graph::Edge;
 use format::record::MOST_RECORDS;
-use log::check::check;
-use log::source::SourceAnswer;
 use refusals::refusal::{Checked, Refusal};
 use sets::NUMBERS;
 use sort::{Sorted, sort};
@@ -17,7 +19,7 @@ use verdict::{edge_between, source_of_record, verdict};
 
 // An answer in numbers: the refusal's number and place, or number 0 and then the value. `struct fruscalenta_answer` of the header.
 #[repr(C)]
-#[derive(Drop)]
+#[derive(Clone, Copy)]
 pub struct Coded {
     pub number: u64,
     pub place: u64,
@@ -27,7 +29,7 @@ pub struct Coded {
 // A source in numbers: the refusal's number and place, or number 0 and then the transaction and the place of its write record, or NONE in
 // both. `struct fruscalenta_source` of the header.
 #[repr(C)]
-#[derive(Drop)]
+#[derive(Clone, Copy)]
 pub struct CodedSource {
     pub number: u64,
     pub place: u64,
@@ -37,7 +39,7 @@ pub struct CodedSource {
 
 // A line or a cycle in numbers: whether it is a cycle, 1 or 0, and how many members it has. `struct fruscalenta_sorted` of the header.
 #[repr(C)]
-#[derive(Drop)]
+#[derive(Clone, Copy)]
 pub struct CodedSorted {
     pub cycle: u64,
     pub length: u64,
@@ -46,7 +48,7 @@ pub struct CodedSorted {
 // A verdict in numbers: the refusal's number and place, or number 0 and then whether it is a cycle, 1 or 0, and how many members it has.
 // `struct fruscalenta_judged` of the header.
 #[repr(C)]
-#[derive(Drop)]
+#[derive(Clone, Copy)]
 pub struct CodedVerdict {
     pub number: u64,
     pub place: u64,

@@ -1,4 +1,6 @@
 // Reason 1: conflicts on a copy.
+#![tactic(auto)]
+
 ghost use Rattle.std.specs.Prelude.{◌≡◌, ℕ, ◌+◌};
 ghost use Rattle.sets.specs.Bits.{has, Holds};
 ghost use Rattle.histories.specs.Reasons.{gives_conflict, conflict};

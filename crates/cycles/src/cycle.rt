@@ -10,7 +10,7 @@ use crate::part::{place_of, place_of_lowest, write_part};
 use sets::NUMBERS;
 
 // Where the path of a walk starts in its buffer, and the transaction that came again.
-#[derive(Drop)]
+#[derive(Clone, Copy)]
 struct Walked {
     at: usize,
     again: u8,
@@ -20,8 +20,8 @@ struct Walked {
 // each transaction before the one that it was reached from, since the edges lead that way.
 fn walk_back(waits: &[u8; NUMBERS], first: usize, path: &mut [u8; NUMBERS]) -> Walked
     requires kept { Kept waits.now }
-    requires first_lt_numbers { first < numbers }
-    requires path_len { length path.old ≡ numbers }
+    requires first_low { first < numbers }
+    requires whole { length path.old ≡ numbers }
     ensures { WalksBack waits.now first path.new result.at result.again }
 {
     let mut at = NUMBERS;
@@ -42,9 +42,9 @@ fn walk_back(waits: &[u8; NUMBERS], first: usize, path: &mut [u8; NUMBERS]) -> W
 // Writes the cycle that the walk back from a transaction leads to, from its lowest number on. The result is how many members it has.
 pub fn write_cycle(waits: &[u8; NUMBERS], first: usize, members: &mut [u8; NUMBERS]) -> usize
     requires kept { Kept waits.now }
-    requires first_lt_numbers { first < numbers }
-    ensures value { result ≡ length (to_lowest (walked waits.now first)) }
-    ensures members_after { members.new ≡ sets members.old 0 (to_lowest (walked waits.now first)) }
+    requires first_low { first < numbers }
+    ensures counted { result ≡ length (to_lowest (walked waits.now first)) }
+    ensures written { members.new ≡ sets members.old 0 (to_lowest (walked waits.now first)) }
 {
     let mut path = [0u8; NUMBERS];
     let walked = walk_back(waits, first, &mut path);

@@ -9,8 +9,8 @@ use sets::NUMBERS;
 
 // Where t first stands in the buffer from `at` on.
 pub(crate) fn place_of(buffer: &[u8; NUMBERS], at: usize, t: u8) -> usize
-    requires buffer_len { length buffer.now ≡ numbers }
-    requires t_value { among (drop at buffer.now) t ≡ true }
+    requires whole { length buffer.now ≡ numbers }
+    requires there { among (drop at buffer.now) t ≡ true }
     ensures { result ≡ at + place_of t (drop at buffer.now) }
 {
     let mut k = at;
@@ -22,8 +22,8 @@ pub(crate) fn place_of(buffer: &[u8; NUMBERS], at: usize, t: u8) -> usize
 
 // Where the lowest number of the part from `at` to `end` first stands.
 pub(crate) fn place_of_lowest(buffer: &[u8; NUMBERS], at: usize, end: usize) -> usize
-    requires buffer_len { length buffer.now ≡ numbers }
-    requires at_lt_end { (at < end) × (end ≤ numbers) }
+    requires whole { length buffer.now ≡ numbers }
+    requires inside { (at < end) × (end ≤ numbers) }
     ensures { result ≡ at + place_of (lowest_member (slice at end buffer.now)) (slice at end buffer.now) }
 {
     let mut low = at;
@@ -37,9 +37,9 @@ pub(crate) fn place_of_lowest(buffer: &[u8; NUMBERS], at: usize, end: usize) -> 
 
 // Writes the part from `start` to `end` of one buffer to another, there from `at` on.
 pub fn write_part(from: &[u8; NUMBERS], start: usize, end: usize, to: &mut [u8; NUMBERS], at: usize)
-    requires from_len { length from.now ≡ numbers }
-    requires start_le_end { (start ≤ end) × (end ≤ numbers) }
-    requires end_bound { at + end ≤ start + numbers }
+    requires whole { length from.now ≡ numbers }
+    requires inside { (start ≤ end) × (end ≤ numbers) }
+    requires room { at + end ≤ start + numbers }
     ensures { to.new ≡ sets to.old at (slice start end from.now) }
 {
     for k in start..end {

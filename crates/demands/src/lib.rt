@@ -1,5 +1,7 @@
 // The three demands of the tender, as the promises of two thin functions over the verdict and the graph: so the prover ties them to what
 // those promise, and not to a copy of it. A caller that wants the answer alone calls these two themselves.
+#![tactic(auto)]
+
 ghost use Rattle.edges.specs.Promises.{GivesGraph};
 ghost use Rattle.verdict.specs.Promises.{JudgesLog};
 ghost use Rattle.answers.specs.Demands.{Demand1, Demand2, Demand3, GraphExactly};

@@ -8,23 +8,23 @@ ghost use Rattle.rules.specs.Record.{transactions};
 ghost use Rattle.rules.specs.Passes.{Passes};
 ghost use Rattle.edges.specs.Promises.{GivesGraph, TellsEdge};
 
+use checked_log::check::check;
 use conflicts::conflicts;
 use format::record::{Copy, TRANSACTIONS};
-use log::check::check;
 use orders::order::keep_order;
 use orders::reasons::order_edges;
 use refusals::refusal::{Checked, Refusal};
 use tables::reasons::{joined, lowest_reason};
 
 // The graph of a log: the set of its transactions, or a refusal. Its edges are in the table that was lent.
-#[derive(Drop)]
+#[derive(Clone, Copy)]
 pub enum Graph {
     Of(u64),
     Refused(Refusal),
 }
 
 // The answer to the question: a reason, 0 where there is no edge; or a refusal.
-#[derive(Drop)]
+#[derive(Clone, Copy)]
 pub enum Edge {
     Reason(u8),
     Refused(Refusal),
@@ -39,10 +39,10 @@ pub fn edges_by_reason(
     by_read: &mut [u64; TRANSACTIONS],
 ) -> u64
     requires { Passes log.now }
-    ensures value { result ≡ members log.now }
-    ensures holds { Holds transactions (conflict (history_of log.now)) by_conflict.new }
-    ensures holds_2 { Holds transactions (write_order (history_of log.now)) by_order.new }
-    ensures holds_3 { Holds transactions (read_before (history_of log.now)) by_read.new }
+    ensures members { result ≡ members log.now }
+    ensures conflict_holds { Holds transactions (conflict (history_of log.now)) by_conflict.new }
+    ensures order_holds { Holds transactions (write_order (history_of log.now)) by_order.new }
+    ensures read_holds { Holds transactions (read_before (history_of log.now)) by_read.new }
 {
     *by_conflict = [0u64; TRANSACTIONS];
     *by_order = [0u64; TRANSACTIONS];
@@ -58,8 +58,8 @@ pub fn edges_by_reason(
 // The table of every edge of a log that passes; the result is the set of its transactions.
 fn edges_of_log(log: &[u8], table: &mut [u64; TRANSACTIONS]) -> u64
     requires { Passes log.now }
-    ensures value { result ≡ members log.now }
-    ensures table_after { table.new ≡ edge_table log.now }
+    ensures members { result ≡ members log.now }
+    ensures table_filled { table.new ≡ edge_table log.now }
 {
     let mut by_conflict = [0u64; TRANSACTIONS];
     let mut by_order = [0u64; TRANSACTIONS];
@@ -82,7 +82,7 @@ pub fn graph_of_log(log: &[u8], table: &mut [u64; TRANSACTIONS]) -> Graph
 // The lowest reason of an edge from i to j in a log that passes. All edges are looked for, so it costs as much as the graph.
 fn reason_between(log: &[u8], i: usize, j: usize) -> u8
     requires passes { Passes log.now }
-    requires i_lt_transactions { (i < transactions) × (j < transactions) }
+    requires in_range { (i < transactions) × (j < transactions) }
     ensures { result ≡ reason (history_of log.now) i j }
 {
     let mut by_conflict = [0u64; TRANSACTIONS];

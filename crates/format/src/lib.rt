@@ -1,2 +1,4 @@
 // The format of a log: its records, as their bytes stand, and the copies that they name.
+#![tactic(auto)]
+
 pub mod record;

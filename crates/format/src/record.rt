@@ -21,7 +21,7 @@ pub const TRANSACTIONS: usize = 64;
 pub const LAST_TRANSACTION: u8 = (TRANSACTIONS - 1) as u8;
 
 // A copy is an item at a site, each within its limit.
-#[derive(Drop)]
+#[derive(Clone, Copy)]
 pub struct Copy {
     pub item: u8,
     pub site: u8,
@@ -55,7 +55,7 @@ impl Copy {
 }
 
 // A record, as its bytes stand in the log.
-#[derive(Drop)]
+#[derive(Clone, Copy)]
 pub struct Record {
     pub kind: u8,
     pub transaction: u8,
@@ -64,6 +64,7 @@ pub struct Record {
 }
 
 // How many whole records the log has.
+#[tactic(auto, unfolding(rules::specs::Record::records))]
 pub fn record_count(log: &[u8]) -> usize
     ensures { result ≡ records log.now }
 {
@@ -71,6 +72,7 @@ pub fn record_count(log: &[u8]) -> usize
 }
 
 // The record at place k.
+#[tactic(auto, unfolding(rules::specs::Record::records, rules::specs::Record::kind, rules::specs::Record::transaction, rules::specs::Record::item, rules::specs::Record::site))]
 pub fn record_at(log: &[u8], k: usize) -> Record
     requires { k < records log.now }
     ensures { (result.kind ≡ kind log.now k)

@@ -9,8 +9,8 @@ use mathlib.Core.Option.{some}
 use mathlib.Core.Logic.{inl, inr, ⊎_elim}
 use Rattle.sets.specs.Paths.{by_edge, edge_then, Acyclic}
 use Rattle.sets.proofs.Truth.{clash, and_left, and_right}
-use Rattle.histories.specs.History.{History, Counts, uses, conflicting}
-use Rattle.histories.specs.Earlier.{writes, wrote_item, Writer}
+use Rattle.histories.specs.History.{History, Counts, conflicting}
+use Rattle.histories.specs.Earlier.{wrote_item, Writer}
 use Rattle.histories.specs.Source.{shows, source_record, writer_behind}
 use Rattle.histories.specs.Order.{comes_before, writer_after}
 use Rattle.histories.specs.Reasons.{gives_write_order, gives_read_before, conflict, write_order, read_before, two_of_them, edge}

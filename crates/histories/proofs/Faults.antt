@@ -1,7 +1,7 @@
 -- A history without faults is sound, and no transaction of it commits twice.
 use Prim.Native.Nat.{ℕ, ◌<◌}
-use mathlib.Core.Path.{◌≡◌, refl, sym, ◌∙◌}
-use mathlib.Core.Bool.{true, false, not}
+use mathlib.Core.Path.{◌≡◌, refl, sym}
+use mathlib.Core.Bool.{true, false}
 use borrow.Author.Tests.{not-false}
 use Rattle.sets.proofs.Truth.{clash}
 use Rattle.sets.proofs.Searches.{only_between}

@@ -1,7 +1,7 @@
 -- What each reason says, as facts of records and of the write order, there and back; so nothing above opens one of the three.
 use Prim.Native.Nat.{ℕ, ◌<◌}
 use mathlib.Core.Path.{◌≡◌, refl, sym, ◌∙◌}
-use mathlib.Core.Bool.{Bool, true, false, ◌&&◌}
+use mathlib.Core.Bool.{true, false, ◌&&◌}
 use mathlib.Core.Option.{Option, none, some}
 use mathlib.Core.Logic.{⊎_elim}
 use Rattle.sets.proofs.Truth.{either, clash, and_left, and_right, and_nothing}
@@ -9,10 +9,10 @@ use Rattle.histories.specs.History.{History, conflicting}
 use Rattle.histories.specs.Earlier.{writes}
 use Rattle.histories.specs.Source.{source_record, writer_behind}
 use Rattle.histories.specs.Order.{writer_after}
-use Rattle.histories.specs.Reasons.{of_writer, gives_conflict, gives_write_order, gives_read_before, conflict, write_order, read_before}
-use Rattle.histories.proofs.OfTransactions.{of_found, of_hit, after_found, writes_hit}
+use Rattle.histories.specs.Reasons.{gives_conflict, gives_write_order, gives_read_before, conflict, write_order, read_before}
+use Rattle.histories.proofs.OfTransactions.{of_found, after_found, writes_hit}
 use Rattle.histories.proofs.Sources.{writer_of, writer_none}
-use Rattle.histories.proofs.Orders.{WriterAfter, writer_after_found, writer_after_hit}
+use Rattle.histories.proofs.Orders.{WriterAfter, writer_after_found}
 
 module _ (h : History) (e j : ℕ) where
   -- what record e gives by reason 2: a write, the writers after its own transaction

@@ -2,12 +2,12 @@
 use Prim.Native.Nat.{ℕ, ◌<◌}
 use native.Mathlib.Omega.{arith}
 use mathlib.Core.Path.{◌≡◌, refl, ◌∙◌, ap, subst}
-use mathlib.Core.Bool.{Bool, true, false, ◌&&◌, cond}
+use mathlib.Core.Bool.{Bool, true, false, cond}
 use mathlib.Core.Logic.{◌↔◌}
 use mathlib.Core.Option.{Option, none, some, map}
 use Rattle.sets.specs.Search.{last_below}
 use Rattle.sets.proofs.Truth.{clash, and_true, and_right}
-use Rattle.sets.proofs.Searches.{Last, last_none, last_some, last_hit, last_miss, last_found, last_view, some_none, some_hit}
+use Rattle.sets.proofs.Searches.{Last, last_none, last_some, last_hit, last_miss, last_found, last_view, some_none}
 use Rattle.histories.specs.History.{History, writes_copy}
 use Rattle.histories.specs.Source.{Source, shows, is_written, source_record, write_record, source, writer_behind}
 use Rattle.histories.proofs.OfTransactions.{WritesCopy, writes_copy_found}

@@ -1,7 +1,7 @@
 -- What the theorems need of a history, in one record. It is shown once for the logs that pass, from the absence of refusals.
-use Rattle.std.specs.Prelude.{ℕ, ◌<◌, ◌≡◌, true}
+use Rattle.std.specs.Prelude.{ℕ, ◌≡◌, true}
 use Rattle.std.proofs.Math.Option.{some}
-use Rattle.histories.specs.History.{History, Counts, uses, writes_copy}
+use Rattle.histories.specs.History.{History, Counts}
 use Rattle.histories.specs.Earlier.{first_of, wrote_copy, wrote_item}
 use Rattle.histories.specs.Source.{writer_behind}
 use Rattle.histories.specs.Faults.{PlainCopies}

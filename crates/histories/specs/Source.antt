@@ -1,6 +1,6 @@
 -- The source of a read.
 use Rattle.std.specs.Prelude.{ℕ, Bool, ◌&&◌, cond}
-use Rattle.std.proofs.Math.Option.{Option, none, some, map}
+use Rattle.std.proofs.Math.Option.{Option, none, map}
 use Rattle.sets.specs.Search.{some_below, last_below}
 use Rattle.histories.specs.History.{History, writes_copy}
 

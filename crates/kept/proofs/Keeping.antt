@@ -13,7 +13,7 @@ use native.Mathlib.Decide.{ℕ_discrete}
 use borrow.Author.Tests.{eq-eqb, ne_eqb}
 use Rattle.sets.specs.Search.{some_below, first_below}
 use Rattle.sets.specs.Bits.{has}
-use Rattle.sets.proofs.Truth.{clash, and_swap, and_always, and_nothing, or_nothing}
+use Rattle.sets.proofs.Truth.{clash, and_swap, or_nothing}
 use Rattle.sets.proofs.Searches.{some_more, some_zero, none_some, first_hit, first_stays}
 use Rattle.sets.proofs.Members.{has_zero}
 use Rattle.sets.proofs.Tables.{holds_none}

@@ -1,5 +1,7 @@
 // What the check keeps of the records that it has passed, so that a record costs the same wherever it stands: for each copy and
 // each item the set of its writers, the transactions named with the first record of each, and those that have committed.
+#![tactic(auto)]
+
 ghost use Rattle.std.specs.Prelude.{◌≡◌, true, ◌+◌};
 ghost use Rattle.rules.specs.Record.{Within, is_read};
 ghost use Rattle.rules.specs.Refusals.{read_rows, history_rows};
@@ -21,7 +23,7 @@ fn read_answer(
     item_writers: &[u64; Copy::ITEMS],
 ) -> Checked
     requires within { Within log.now k }
-    requires k_value { is_read log.now k ≡ true }
+    requires reads { is_read log.now k ≡ true }
     requires kept_copies { KeptCopies log.now k copy_writers.now }
     requires kept_items { KeptItems log.now k item_writers.now }
     ensures { checked_says result ≡ answer_of (read_rows (history_of log.now) k) }
@@ -76,8 +78,8 @@ pub fn keep_write(
     requires within { Within log.now k }
     requires kept_copies { KeptCopies log.now k copy_writers.old }
     requires kept_items { KeptItems log.now k item_writers.old }
-    ensures kept_copies_2 { KeptCopies log.now (k + 1) copy_writers.new }
-    ensures kept_items_2 { KeptItems log.now (k + 1) item_writers.new }
+    ensures copies_more { KeptCopies log.now (k + 1) copy_writers.new }
+    ensures items_more { KeptItems log.now (k + 1) item_writers.new }
 {
     if kind_at(log, k) == WRITE {
         let t = transaction_at(log, k);

@@ -5,10 +5,9 @@ use mathlib.Core.Path.{◌≡◌, refl, sym, ◌∙◌, ap}
 use mathlib.Core.List.{List}
 use mathlib.Core.Bool.{Bool, true, false, ◌&&◌, ◌||◌}
 use lib.Dec.{eqb}
-use Rattle.sets.specs.Search.{some_below, some_from}
+use Rattle.sets.specs.Search.{some_from}
 use Rattle.sets.specs.Bits.{has, Holds}
-use Rattle.sets.proofs.Truth.{same_truth, and_always, and_nothing}
-use Rattle.sets.proofs.Tables.{holds_same}
+use Rattle.sets.proofs.Truth.{same_truth}
 use Rattle.sets.proofs.Gathered.{set_none_from, set_from_more, set_from_stays, set_all_from}
 use Rattle.histories.specs.History.{is_by, writes_item}
 use Rattle.histories.specs.Earlier.{some_before, some_of, some_after, wrote_item, writes}

@@ -16,8 +16,8 @@ fn order_commit(log: &[u8], k: usize, later: u64, after: &mut [u64; TRANSACTIONS
     requires within { Within log.now k }
     requires later_commits { LaterCommits log.now (k + 1) later }
     requires later_orders { LaterOrders log.now (k + 1) after.old }
-    ensures later_commits_2 { LaterCommits log.now k result }
-    ensures later_orders_2 { LaterOrders log.now k after.new }
+    ensures commits { LaterCommits log.now k result }
+    ensures orders { LaterOrders log.now k after.new }
 {
     if kind_at(log, k) == COMMIT {
         add_to_row(log, k, later, after);
@@ -33,10 +33,10 @@ pub fn keep_order(
     after: &mut [u64; TRANSACTIONS],
 ) -> u64
     requires passes { Passes log.now }
-    requires empty { Empty items writers.old }
-    requires empty_2 { Empty transactions after.old }
+    requires no_writers { Empty items writers.old }
+    requires nobody_after { Empty transactions after.old }
     ensures kept_order { KeptOrder log.now writers.new after.new }
-    ensures by_index { (t : ℕ) → has result t ≡ in_log log.now t }
+    ensures members { (t : ℕ) → has result t ≡ in_log log.now t }
 {
     let mut committed: u64 = 0;
     let mut k = record_count(log);
@@ -57,7 +57,7 @@ pub(crate) fn writers_after(
     after: &[u64; TRANSACTIONS],
 ) -> u64
     requires within { Within log.now k }
-    requires s_lt_transactions { s < transactions }
+    requires s_in_range { s < transactions }
     requires kept_order { KeptOrder log.now writers.now after.now }
     ensures { (j : ℕ) → has result j ≡ writer_after (history_of log.now) (item log.now k) s j }
 {

@@ -9,8 +9,8 @@ ghost use Rattle.tables.specs.Kept.{Empty};
 ghost use Rattle.orders.specs.Kept.{KeptOrder};
 
 use crate::order::writers_after;
+use checked_log::source::{Found, source_record};
 use format::record::{Copy, TRANSACTIONS, WRITE, kind_at, record_count, transaction_at};
-use log::source::{Found, source_record};
 use tables::add::add_to_row;
 
 // The transactions that record k puts after its own by reason 2.
@@ -61,10 +61,10 @@ pub fn order_edges(
 )
     requires in_limits { InLimits log.now }
     requires kept_order { KeptOrder log.now writers.now after.now }
-    requires empty { Empty transactions by_order.old }
-    requires empty_2 { Empty transactions by_read.old }
-    ensures holds { Holds transactions (write_order (history_of log.now)) by_order.new }
-    ensures holds_2 { Holds transactions (read_before (history_of log.now)) by_read.new }
+    requires order_empty { Empty transactions by_order.old }
+    requires read_empty { Empty transactions by_read.old }
+    ensures order_holds { Holds transactions (write_order (history_of log.now)) by_order.new }
+    ensures read_holds { Holds transactions (read_before (history_of log.now)) by_read.new }
 {
     let mut k = record_count(log);
     while 0 < k {

@@ -12,7 +12,7 @@ use writing::RECORD_SIZE;
 pub fn put_first(word: &[u8], n: usize, text: &mut [u8; TEXT]) -> usize
     requires { length word.now ≤ 8 }
     ensures put { Put text.old 0 (first_line word.now n) text.new result }
-    ensures upper_bound { result ≤ first_room }
+    ensures fits { result ≤ first_room }
 {
     let at = put_bytes(word, text, 0);
     let at = put_bytes(b" ", text, at);
@@ -52,9 +52,9 @@ pub fn put_records(
     text: &mut [u8; TEXT],
     start: usize,
 ) -> usize
-    requires n_le_transactions { n ≤ transactions }
-    requires record_size_in_bounds { n * record_size ≤ length answer.now }
-    requires record_room_bound { start + n * record_room ≤ text_room }
+    requires n_in_range { n ≤ transactions }
+    requires records_there { n * record_size ≤ length answer.now }
+    requires room { start + n * record_room ≤ text_room }
     ensures { Put text.old start (record_lines reasons answer.now n) text.new result }
 {
     let mut at = start;

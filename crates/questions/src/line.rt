@@ -1,8 +1,8 @@
 // The answers to the two questions as they are printed: one line each, written to the front of a buffer that is lent.
 ghost use Rattle.questions.specs.Promises.{PrintsSource, PrintsEdge};
 
+use checked_log::source::{SourceAnswer, source_of_record};
 use edges::graph::{Edge, edge_between};
-use log::source::{SourceAnswer, source_of_record};
 use printing::line::{put_numbers, put_refusal};
 use printing::put::{TEXT, put_bytes};
 

@@ -8,7 +8,7 @@ use std::io::Read;
 
 // What reading comes to: how many bytes were read, and whether the last read failed. A caller then gives no
 // answer, since half an input could have another. A call that a signal interrupts counts as one that failed.
-#[derive(Drop)]
+#[derive(Clone, Copy)]
 pub struct Input {
     pub count: usize,
     pub failed: bool,

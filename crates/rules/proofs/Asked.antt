@@ -1,6 +1,6 @@
 -- The answers to the questions and of the graph, case by case: the check's refusal, then 10, then what was asked for.
 use Prim.Native.Nat.{ℕ, ◌≤◌, ◌<◌}
-use mathlib.Core.Path.{◌≡◌, refl, ◌∙◌, ap}
+use mathlib.Core.Path.{◌≡◌, refl}
 use mathlib.Core.List.{List, [], ◌∷◌, ◌++◌}
 use mathlib.Core.Bool.{Bool, true, false, ◌||◌}
 use lib.Dec.{leb}
@@ -8,12 +8,12 @@ use borrow.Author.Tests.{le-leb, lt-leb}
 use Rattle.sets.proofs.Truth.{or_hit_right}
 use Rattle.histories.specs.Source.{source}
 use Rattle.histories.specs.Reasons.{reason}
-use Rattle.rules.specs.Answer.{Answer, gives, refused, passed, ◌then◌}
+use Rattle.rules.specs.Answer.{gives, refused, passed, ◌then◌}
 use Rattle.rules.specs.Rows.{row, answer_of}
 use Rattle.rules.specs.Record.{transactions, records}
 use Rattle.rules.specs.LogHistory.{history_of}
 use Rattle.rules.specs.Refusals.{log_rows, check_answer}
-use Rattle.rules.specs.Questions.{source_rows, source_answer, edge_rows, edge_answer, members, graph_answer}
+use Rattle.rules.specs.Questions.{source_answer, edge_answer, members, graph_answer}
 use Rattle.rules.proofs.Rows.{append_passed, append_refused, row_applies, row_skipped, no_rows}
 
 -- a question of which the last row is number 10

@@ -1,9 +1,9 @@
 -- A log that passes: its records are within the limits, and its history is sound. Each is what one number's absence says.
 use Prim.Native.Nat.{ℕ, ◌*◌, ◌%◌, ◌≤◌, ◌<◌}
 use native.Mathlib.Omega.{arith}
-use mathlib.Core.Path.{◌≡◌, refl, sym, subst}
+use mathlib.Core.Path.{◌≡◌, refl}
 use mathlib.Core.List.{List}
-use mathlib.Core.Bool.{true, false, not}
+use mathlib.Core.Bool.{true}
 use mathlib.Core.Option.{some}
 use lib.ListN.{length}
 use lib.Dec.{eqb}
@@ -17,7 +17,7 @@ use Rattle.histories.proofs.Sources.{sourced, source_record_of, source_exactly}
 use Rattle.histories.proofs.Faults.{commits_once, faultless_sound}
 use Rattle.rules.specs.Answer.{passed}
 use Rattle.rules.specs.Rows.{NoneOf}
-use Rattle.rules.specs.Record.{Within, record_bytes, transactions, sites, most_records, most_bytes, transaction, item, site, records}
+use Rattle.rules.specs.Record.{Within, record_bytes, transactions, most_records, most_bytes, transaction, item, site, records}
 use Rattle.rules.specs.Record.{copy_of, copy_number}
 use Rattle.rules.specs.LogHistory.{named, in_log, history_of}
 use Rattle.rules.specs.Refusals.{too_long, ragged, never_commits, log_rows, check_answer}

@@ -1,7 +1,7 @@
 -- The parts of document 01's table, and what the absence of each number says of a log that passes.
 use Prim.Native.Nat.{ℕ, ◌<◌}
 use mathlib.Core.Path.{◌≡◌, ◌∙◌, ap}
-use mathlib.Core.List.{List, [], ◌∷◌, ◌++◌}
+use mathlib.Core.List.{List, [], ◌∷◌}
 use mathlib.Core.Bool.{true, false, not}
 use mathlib.Core.Logic.{◌↔◌}
 use Rattle.histories.specs.Faults.{after_commit, reads_unwritten, reads_past_own}

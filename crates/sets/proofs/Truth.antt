@@ -1,5 +1,5 @@
 -- Laws of tests: their two cases, conjunctions and disjunctions.
-use mathlib.Core.Path.{◌≡◌, refl, sym, ◌∙◌, ap}
+use mathlib.Core.Path.{◌≡◌, refl, sym, ◌∙◌}
 use mathlib.Core.Bool.{Bool, true, false, ◌&&◌, ◌||◌, true≢false}
 use mathlib.Core.Logic.{◌⊎◌, inl, inr}
 

@@ -1,5 +1,6 @@
 // Sets of numbers below 64, each as the bits of a u64.
 #![tactic(auto)]
+
 ghost use Rattle.std.specs.Prelude.{◌≡◌, ◌&&◌, ◌||◌, not, ℕ, ◌<◌, eqb};
 ghost use Rattle.sets.specs.Bits.{numbers, has};
 ghost use Rattle.sets.specs.Search.{first_from};

@@ -1,8 +1,8 @@
 -- Laws of the predecessors that are kept, in their buffer: at first none is known, one that is found is stored, and those left become
 -- fewer. And what the sets' own functions find and take out, as the rule has it.
-use Prim.Native.Nat.{ℕ, ◌+◌, ◌<◌}
+use Prim.Native.Nat.{ℕ, ◌+◌, ◌<◌, ◌≤◌}
 use native.Mathlib.Omega.{arith}
-use native.Mathlib.Decide.{ℕ_discrete}
+use native.Mathlib.Decide.{ℕ_discrete, dec_lt}
 use mathlib.Core.Path.{◌≡◌, sym, ◌∙◌, ap, subst, fun_ext}
 use mathlib.Core.Bool.{Bool, true, false, ◌&&◌, not}
 use mathlib.Core.List.{List}
@@ -32,6 +32,17 @@ kept_in waits t = get_or waits t 0
 -- what a search from k on found
 pub found_from : (p : ℕ → Bool) (k r : ℕ) → r ≡ first_from k numbers p → FirstFrom p k numbers r
 found_from p k r e = subst (FirstFrom p k numbers) (sym e) (first_from_view p k numbers)
+
+-- it is not past the end of the numbers, and not below k
+pub first_within : (k n : ℕ) (p : ℕ → Bool) → first_from k n p ≤ n
+first_within k n p = (first_from_view p k n).within
+
+pub first_above : (k n : ℕ) (p : ℕ → Bool) → k ≤ n → k ≤ first_from k n p
+first_above k n p l = go (dec_lt (first_from k n p) n)
+  where
+    go : Dec (first_from k n p < n) → k ≤ first_from k n p
+    go (yes below) = ((first_from_view p k n).passes below).0
+    go (no over) = omega (arith, l, over)
 
 module _ (edge : ℕ → ℕ → Bool) (left : ℕ → Bool) where
   -- the one found is kept

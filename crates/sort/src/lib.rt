@@ -1,5 +1,7 @@
 // The sort: the smallest line of a set of transactions that keeps every edge of a table, or a cycle of its edges. It knows tables of
 // edges and sets, and no logs. The line is placed here; the cycle is walked and written by `cycles`.
+#![tactic(auto)]
+
 ghost use Rattle.sort.specs.Promises.{SortsTable};
 
 mod line;
@@ -11,7 +13,7 @@ use cycles::part::write_part;
 use sets::NUMBERS;
 
 // A line or a cycle, and how many members it has. They are in the buffer that was lent.
-#[derive(Drop)]
+#[derive(Clone, Copy)]
 pub enum Sorted {
     Line(usize),
     Cycle(usize),

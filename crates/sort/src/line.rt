@@ -8,7 +8,7 @@ use crate::search::{Ready, lowest_ready};
 use sets::NUMBERS;
 
 // How many have been placed, and those that are left.
-#[derive(Drop)]
+#[derive(Clone, Copy)]
 pub struct Placed {
     pub count: usize,
     pub left: u64,

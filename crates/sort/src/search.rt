@@ -7,7 +7,7 @@ ghost use Rattle.sort.specs.Promises.{FindsReady};
 use sets::NUMBERS;
 
 // The transaction that is ready, or none.
-#[derive(Drop)]
+#[derive(Clone, Copy)]
 pub enum Ready {
     At(usize),
     None,
@@ -17,6 +17,7 @@ pub enum Ready {
 // of a transaction goes on from where it last found one, since those left only become fewer. So all the searches for a line look at most
 // 64 × 64 times in vain for an edge, and each of them at most once more for each transaction. Where none is ready, the predecessors found
 // are the lowest.
+#[tactic(auto, using(crate::proofs::Waits::first_within, crate::proofs::Waits::first_above))]
 pub(crate) fn lowest_ready(table: &[u64; NUMBERS], left: u64, waits: &mut [u8; NUMBERS]) -> Ready
     requires kept { Kept waits.old }
     requires searched { Searched (in_row table.now) (has left) waits.old }

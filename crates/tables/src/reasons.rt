@@ -39,9 +39,9 @@ pub fn joined(
     by_read: &[u64; TRANSACTIONS],
     table: &mut [u64; TRANSACTIONS],
 )
-    requires by_conflict_len { length by_conflict.now ≡ transactions }
-    requires by_order_len { length by_order.now ≡ transactions }
-    requires by_read_len { length by_read.now ≡ transactions }
+    requires conflict_rows { length by_conflict.now ≡ transactions }
+    requires order_rows { length by_order.now ≡ transactions }
+    requires read_rows { length by_read.now ≡ transactions }
     ensures { Holds transactions (any_reason by_conflict.now by_order.now by_read.now) table.new }
 {
     let mut rows = [0u64; TRANSACTIONS];

@@ -14,7 +14,6 @@ use Rattle.answers.proofs.VerdictRows.{check_passes, enough_room, answer_refused
 use Rattle.answers.proofs.AnswerRecords.{records_long, ordered_fits}
 use Rattle.verdict.proofs.Written.{in_front}
 use Rattle.printing.specs.Lines.{text_room, first_line, refusal_line, record_lines}
-use Rattle.printing.specs.Kept.{Put}
 use Rattle.printing.proofs.Lines.{first_short, lines_short, lines_same}
 use Rattle.text.specs.Text.{serial_word, cycle_word, printed_answer, printed_with, printed}
 use Rattle.text.specs.Kept.{Recorded, Lent}

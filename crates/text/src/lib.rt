@@ -1,4 +1,6 @@
 // The answer as the program prints it: lines of ASCII bytes, written to the front of a buffer that is lent.
+#![tactic(auto)]
+
 ghost use Rattle.verdict.specs.Numbers.{verdict_says};
 ghost use Rattle.text.specs.Kept.{Lent};
 ghost use Rattle.text.specs.Promises.{PrintsAnswer, PrintsJudged, PrintsLog};

@@ -9,7 +9,7 @@ use lib.Seq.{sets, sets-eq}
 use Rattle.sets.specs.Bits.{numbers, has, in_row, Holds}
 use Rattle.histories.specs.Reasons.{edge, reason}
 use Rattle.rules.specs.Answer.{gives}
-use Rattle.rules.specs.LogHistory.{in_log, history_of}
+use Rattle.rules.specs.LogHistory.{history_of}
 use Rattle.rules.specs.Questions.{members}
 use Rattle.rules.specs.Record.{transactions}
 use Rattle.rules.specs.Passes.{Passes}

@@ -1,4 +1,6 @@
 // The verdict on a log: a serial line, a cycle with its reasons, or a refusal. The two questions stand beside it.
+#![tactic(auto)]
+
 ghost use Rattle.std.specs.Prelude.{◌≡◌, length, ◌≤◌};
 ghost use Rattle.std.proofs.lemmas.List.Edits.{sets};
 ghost use Rattle.rules.specs.Answer.{passed, gives};
@@ -11,11 +13,11 @@ ghost use Rattle.verdict.specs.Promises.{JudgesLog};
 pub mod answer;
 
 use crate::answer::Verdict;
+use checked_log::check::{content_answer, length_answer};
+pub use checked_log::source::source_of_record;
 pub use edges::graph::edge_between;
 use edges::graph::edges_by_reason;
 use format::record::TRANSACTIONS;
-use log::check::{content_answer, length_answer};
-pub use log::source::source_of_record;
 use refusals::refusal::{Checked, Refusal};
 use sort::{Sorted, sort};
 use tables::reasons::joined;
@@ -38,9 +40,9 @@ fn checked(log: &[u8], room: usize) -> Checked
 // The verdict on a log that passes. The sort works in arrays of its own, so that nothing is written before the answer is whole.
 fn ordered(log: &[u8], answer: &mut [u8]) -> Verdict
     requires passes { Passes log.now }
-    requires most_answer_in_bounds { most_answer ≤ length answer.old }
-    ensures result_value { verdict_says result ≡ how_many (gives (line_or_cycle log.now)) }
-    ensures answer_after { answer.new ≡ sets answer.old 0 (answer_records log.now (gives (line_or_cycle log.now))) }
+    requires room { most_answer ≤ length answer.old }
+    ensures says { verdict_says result ≡ how_many (gives (line_or_cycle log.now)) }
+    ensures written { answer.new ≡ sets answer.old 0 (answer_records log.now (gives (line_or_cycle log.now))) }
 {
     let mut by_conflict = [0u64; TRANSACTIONS];
     let mut by_order = [0u64; TRANSACTIONS];

@@ -1,4 +1,6 @@
 // Answer records: the reasons along a cycle, and how the records are written into a buffer that is lent, two bytes each.
+#![tactic(auto)]
+
 ghost use Rattle.std.specs.Prelude.{◌≤◌, ◌≡◌, length};
 ghost use Rattle.std.proofs.lemmas.List.Edits.{sets};
 ghost use Rattle.rules.specs.Record.{transactions};
@@ -22,8 +24,8 @@ pub fn write_records(
     n: usize,
     answer: &mut [u8],
 )
-    requires n_le_transactions { n ≤ transactions }
-    requires most_answer_in_bounds { most_answer ≤ length answer.old }
+    requires n_in_range { n ≤ transactions }
+    requires room { most_answer ≤ length answer.old }
     ensures { answer.new ≡ sets answer.old 0 (pairs n (entry members.now) (entry seconds.now)) }
 {
     let mut k = 0;
@@ -42,7 +44,7 @@ pub fn reasons_along(
     members: &[u8; TRANSACTIONS],
     n: usize,
 ) -> [u8; TRANSACTIONS]
-    requires n_le_transactions { n ≤ transactions }
+    requires n_in_range { n ≤ transactions }
     requires low { Low n members.now }
     ensures { Along (lowest_in by_conflict.now by_order.now by_read.now) members.now n n result }
 {

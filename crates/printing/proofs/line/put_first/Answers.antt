@@ -24,5 +24,5 @@ line_put c =
 pub returns-clause-put : goal.returns-clause-put
 returns-clause-put c = line_put c
 
-pub returns-clause-upper_bound : goal.returns-clause-upper_bound
-returns-clause-upper_bound c = omega (arith, (line_put c).ends, first_short c.args.word.now c.args.n c.requires c.ranges.n.fits)
+pub returns-clause-fits : goal.returns-clause-fits
+returns-clause-fits c = omega (arith, (line_put c).ends, first_short c.args.word.now c.args.n c.requires c.ranges.n.fits)

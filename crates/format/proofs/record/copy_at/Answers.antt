@@ -1,0 +1,12 @@
+-- `format::record::copy_at` meets its contract: the number is made of the record's item and site, which are within their limits.
+use Rattle.std.proofs.Common.{ap₂, ◌∙◌}
+use Rattle.rules.specs.Record.{copy_number, copy_of}
+use Rattle.format.proofs.record.copy_at.Goals as goal
+
+pub returns : goal.returns
+unfolding copy_of
+returns c =
+    let e = c in (
+      c.number.ensures.0 ∙ ap₂ copy_number (c.new.ensures.0 ∙ e.record_at-r.ensures.2) (c.new.ensures.1 ∙ e.record_at-r.ensures.3),
+      c.number.ensures.1,
+    )

@@ -1,3 +1,0 @@
-// Reads logs: checks them by document 01's table and names the write behind every read, by its transaction and its place.
-pub mod check;
-pub mod source;

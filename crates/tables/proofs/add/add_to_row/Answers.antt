@@ -1,0 +1,19 @@
+-- `tables::add::add_to_row` meets its contract: one row is stored, the old one with the set joined to it.
+use Rattle.std.proofs.Common.{Bool, ap, eqb, sym, ℕ, ◌&&◌, ◌∙◌, ◌≡◌}
+use Rattle.sets.specs.Bits.{has}
+use Rattle.histories.specs.History.{is_by}
+use Rattle.sets.proofs.Gathered.{added_store}
+use Rattle.histories.proofs.OfTransactions.{by_is}
+use Rattle.rules.specs.LogHistory.{history_of}
+use Rattle.tables.proofs.add.add_to_row.Goals as goal
+
+pub returns : goal.returns
+returns c =
+    let log = c.args.log.now in
+    let k = c.args.k in
+    let old = c.args.table.now in
+    let to = c.args.to in
+    let t = c.transaction_at-i in
+    let own : (i : ℕ) → is_by (history_of log) k i ≡ eqb t.result i = λ i. by_is (history_of log) k i ∙ ap (λ (x : ℕ). eqb x i) (sym t.ensures.0) in
+    added_store (λ i j. is_by (history_of log) k i && has to j) old t.result c.union.result (has to) (rw c.requires.whole t.ensures.1) c.union.ensures
+    (λ i j. ap (λ (b : Bool). b && has to j) (own i))

@@ -1,0 +1,12 @@
+-- `tables::reasons::joined` meets its contract. The invariant: the first i rows are joined.
+use Rattle.std.proofs.Common.{◌-◌, ◌≤◌}
+use Rattle.sets.proofs.Tables.{RowsBelow}
+use Rattle.rules.specs.Record.{transactions}
+use Rattle.tables.specs.ReasonTables.{any_reason}
+use Rattle.tables.proofs.reasons.joined.Given as goal
+
+abbrev pub invariant-loop-i : goal.invariant-loop-i
+invariant-loop-i l = (l.i ≤ transactions) × RowsBelow transactions (any_reason l.by_conflict l.by_order l.by_read) l.i l.rows
+
+abbrev pub decreases-loop-i : goal.decreases-loop-i
+decreases-loop-i l = transactions - l.i
