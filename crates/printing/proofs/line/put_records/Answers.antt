@@ -1,5 +1,5 @@
 -- `printing::line::put_records` meets its contract: each record's line has room, and is put behind those before.
-use Rattle.std.proofs.Common.{◌+◌, ◌*◌, ◌<◌, ℕ, arith}
+use Rattle.std.proofs.Common.{◌<◌, ℕ, arith}
 use Rattle.answers.specs.Verdict.{entry}
 use Rattle.printing.proofs.Lines.{lines_none, lines_more, lines_short, record_room_left}
 use Rattle.printing.proofs.Puts.{put_none, put_then, put_same}
@@ -15,8 +15,8 @@ put_numbers-at-requires c =
     let byte : (i : ℕ) → entry a.answer.now i < 256 = λ i. omega (arith, c.type_inv.answer i) in
     record_room_left a.reasons l.at _ _
     (omega (arith, l.invariant.1.ends, lines_short a.reasons a.answer.now byte l.k))
-    (byte (l.k * 2))
-    (byte (l.k * 2 + 1))
+    (byte _)
+    (byte _)
 
 pub loop-k-preserved : goal.loop-k-preserved
 loop-k-preserved c =
