@@ -1,3 +1,4 @@
+-- What the check leaves to show of `writing::write_records`; its invariant stands beside this file.
 use Rattle.std.proofs.Common.{List, ap, arith, length, set, ℕ, ◌*◌, ◌+◌, ◌<◌, ◌∙◌, ◌≡◌}
 use Rattle.answers.specs.Verdict.{entry}
 use Rattle.writing.proofs.Pairs.{pairs_none, pairs_more, pairs_room}

@@ -1,3 +1,4 @@
+-- What the check leaves to show of `checked_log::check::content_answer`; its invariant stands beside this file.
 use Rattle.std.proofs.Common.{List, ap, arith, sym, ℕ, ◌*◌, ◌<◌, ◌∙◌, ◌≡◌}
 use Rattle.histories.specs.History.{writes_copy, writes_item}
 use Rattle.rules.specs.Answer.{passed}

@@ -1,3 +1,4 @@
+-- What the check leaves to show of `checked_log::check::end_answer`; its invariant stands beside this file.
 use Rattle.std.proofs.Common.{Bool, ap, ap₂, arith, false, not, sym, ◌&&◌, ◌∙◌, ◌≡◌}
 use Rattle.sets.specs.Bits.{has}
 use Rattle.sets.proofs.Searches.{none_more}

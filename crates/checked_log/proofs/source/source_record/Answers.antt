@@ -1,3 +1,4 @@
+-- What the check leaves to show of `checked_log::source::source_record`; its invariant stands beside this file.
 use Rattle.std.proofs.Common.{arith, sym, true, ◌-◌, ◌∙◌, ◌≡◌}
 use Rattle.histories.proofs.Sources.{source_other, source_hit, source_missing}
 use Rattle.rules.specs.LogHistory.{history_of}

@@ -1,3 +1,4 @@
+-- What the check leaves to show of `tables::reasons::joined`; its invariant stands beside this file.
 use Rattle.std.proofs.Common.{Bool, ap, arith, eqb, not, ◌&&◌, ◌||◌, ◌∙◌}
 use Rattle.sets.specs.Bits.{in_row}
 use Rattle.sets.proofs.Truth.{and_swap}
