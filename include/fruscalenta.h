@@ -1,5 +1,5 @@
-/* The C face of the checker of replicated logs. Link libclib.a, which `rt lib` makes in crates/clib (x86-64 Linux). docs/LOGS.md says what a
- * log is, and when each refusal is given.
+/* The C face of the checker of replicated logs. Link libclib.a, which `rt lib` makes in crates/clib (x86-64-v2 Linux). docs/LOGS.md says what
+ * a log is, and when each refusal is given.
  *
  * Every log of any length and content, and every table of edges with every set, gets an answer. Nothing is allocated, and nothing is kept
  * between calls. Nothing is asked of a caller but that the pointers are good: log points at len readable bytes, and is not null, also where

@@ -188,7 +188,7 @@ pub record ReasonsTold : Type 0 where
   of_P5 : reasons (plain P5) ((0, 0) ∷ []) ≡ 0 ∷ []
   -- P12: "cycle 1, 2 with reasons 3, 3", and "P12 has no cycle among conflicts": r1[xA] and w2[xB] are not on the same copy
   of_P12 : reasons (plain P12) ((1, 2) ∷ (2, 1) ∷ []) ≡ 3 ∷ 3 ∷ []
-  -- the error "giving a read_before edge to a writer that comes before the source": r1[yC] has source 0, and gives none to 3, nor to 0
+  -- the error "giving a read-before edge to a writer that comes before the source": r1[yC] has source 0, and gives none to 3, nor to 0
   after_3 : reasons (plain P3_after_3) ((1, 3) ∷ (1, 0) ∷ []) ≡ 0 ∷ 0 ∷ []
   -- "at least one a write": two reads of a copy are in no conflict
   of_readers : reasons (plain (w 0 x A ∷ c 0 ∷ r 1 x A ∷ r 2 x A ∷ c 1 ∷ c 2 ∷ [])) ((0, 2) ∷ (1, 2) ∷ (2, 1) ∷ []) ≡ 1 ∷ 0 ∷ 0 ∷ []

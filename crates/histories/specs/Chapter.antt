@@ -1,4 +1,4 @@
--- What the chapter asks of a graph: SG, reads_from, the two conditions on a graph, and the RDSG. The crawled text has lost subscripts;
+-- What the chapter asks of a graph: SG, reads-from, the two conditions on a graph, and the RDSG. The crawled text has lost subscripts;
 -- docs/DECISIONS.md says which were put back here.
 use Rattle.std.specs.Prelude.{ℕ, ◌≡◌, Bool, true, ◌&&◌, ◌⊎◌}
 use Rattle.std.proofs.Math.Option.{some}
