@@ -1,6 +1,6 @@
 -- `verdict::ordered` meets its contract: the tables of the three reasons, joined, are the log's edges, so the sort gives the log's line or
 -- cycle; what is then written are its records.
-use Rattle.std.proofs.Common.{List, ap, length, replicate, sym, ℕ, ◌∙◌, ◌≡◌}
+use Rattle.std.proofs.Common.{List, ap, arith, length, replicate, sym, ℕ, ◌∙◌, ◌≡◌}
 use Rattle.std.proofs.lemmas.List.{length-replicate}
 use Rattle.std.proofs.lemmas.List.Edits.{sets}
 use Rattle.sets.specs.Bits.{numbers, has, in_row, Holds}
@@ -91,7 +91,7 @@ module _ (c : After-sort) where
 -- a line's members are written with zeros
 pub write_records-requires-clause-n_in_range : goal.write_records-requires-clause-n_in_range
 write_records-requires-clause-n_in_range c =
-    counted_low (line_in_buffer (goal.at.write_records-requires-clause-n_in_range c).After-sort c.in-Line.n (ap sorted_says c.in-Line.is))
+    omega (arith, counted_low (line_in_buffer (goal.at.write_records-requires-clause-n_in_range c).After-sort c.in-Line.n (ap sorted_says c.in-Line.is)))
 
 pub returns-in-Line-clause-says : goal.returns-in-Line-clause-says
 returns-in-Line-clause-says c = ap gives (line_is (goal.at.returns-in-Line-clause-says c).After-sort c.in-Line.n (ap sorted_says c.in-Line.is))
@@ -115,7 +115,7 @@ reasons_along-reasons-requires-clause-low c =
 -- and written with the members
 pub write_records-requires-in-Cycle-clause-n_in_range : goal.write_records-requires-in-Cycle-clause-n_in_range
 write_records-requires-in-Cycle-clause-n_in_range c =
-    counted_low (cycle_in_buffer (goal.at.write_records-requires-in-Cycle-clause-n_in_range c).After-sort c.in-Cycle.n (ap sorted_says c.in-Cycle.is))
+    omega (arith, counted_low (cycle_in_buffer (goal.at.write_records-requires-in-Cycle-clause-n_in_range c).After-sort c.in-Cycle.n (ap sorted_says c.in-Cycle.is)))
 
 pub returns-in-Cycle-clause-says : goal.returns-in-Cycle-clause-says
 returns-in-Cycle-clause-says c = ap gives (cycle_is (goal.at.returns-in-Cycle-clause-says c).After-sort c.in-Cycle.n (ap sorted_says c.in-Cycle.is))
