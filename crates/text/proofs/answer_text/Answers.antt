@@ -1,5 +1,5 @@
 -- `text::answer_text` meets its contract: each case of the verdict has its own first line, and a line and a cycle have their records behind it.
-use Rattle.std.proofs.Common.{Bool, List, ap, arith, false, length, rules, subst, true, ℕ, ◌++◌, ◌∙◌, ◌≡◌, ◌≤◌}
+use Rattle.std.proofs.Common.{Bool, Fits, List, ap, arith, get_or, w8, false, length, rules, subst, true, ℕ, ◌++◌, ◌∙◌, ◌≡◌, ◌≤◌}
 use Rattle.refusals.specs.Numbers.{number_of, place_of}
 use Rattle.verdict.specs.Numbers.{verdict_says}
 use Rattle.verdict.specs.declared.answer.Verdict.{Verdict}
@@ -10,10 +10,10 @@ use Rattle.text.specs.Text.{serial_word, cycle_word, printed_answer}
 use Rattle.text.specs.Kept.{Lent, Recorded}
 use Rattle.text.proofs.Answers.{line_text, cycle_text, refusal_text, text_short}
 use Rattle.text.proofs.answer_text.Goals as goal
-use Rattle.text.proofs.answer_text.Goals.{After-shared_slice_known-1}
+use Rattle.text.proofs.answer_text.Goals.{Start}
 
 -- what the verdict says, and the records behind it
-module _ (c : After-shared_slice_known-1) where
+module _ (c : Start) where
   abbrev answer_of : List ℕ
   answer_of = c.args.answer.now
 
@@ -25,38 +25,30 @@ module _ (c : After-shared_slice_known-1) where
   text_as e = ap (λ (v : Verdict). printed_answer (verdict_says v) answer_of) e
 
   -- a first line and the lines of n records fit
-  fits : (word : List ℕ) (n : ℕ) (reasons : Bool) → length word ≤ 8 → Recorded n answer_of
+  fits : (word : List ℕ) (n : ℕ) (reasons : Bool) → length word ≤ 8 → Recorded n answer_of → ((i : ℕ) → Fits w8 (get_or answer_of i 0))
       → length (first_line word n ++ record_lines reasons answer_of n) ≤ text_room
-  fits word n reasons l r = text_short word n reasons answer_of l r (λ i. omega (arith, c.shared_slice_known-1.given i))
-
--- LOST slice-aggregate-put-first
--- slice_aggregate_put_first : tie.Need-slice-aggregate-put-first
--- slice_aggregate_put_first c = search rules
-
--- LOST slice-aggregate-put-first-2
--- slice_aggregate_put_first_2 : tie.Need-slice-aggregate-put-first-2
--- slice_aggregate_put_first_2 c = search rules
+  fits word n reasons l r b = text_short word n reasons answer_of l r (λ i. omega (arith, b i))
 
 pub returns-in-Line : goal.returns-in-Line
 unfolding serial_word
 returns-in-Line c =
-    let here = (goal.at.returns-in-Line c).After-shared_slice_known-1 in
+    let here = (goal.at.returns-in-Line c).Start in
     let n = c.in-Line.n in
     let is = c.in-Line.is in
     whole (first_line serial_word n ++ record_lines false c.args.answer.now n) (text_as here is ∙ line_text n c.args.answer.now)
-    (put_then c.put_first-at.ensures.put c.put_records.ensures) (fits here serial_word n false (omega arith) (lent_as here is))
+    (put_then c.put_first-at.ensures.put c.put_records.ensures) (fits here serial_word n false (omega arith) (lent_as here is) c.type_inv.answer)
 
 pub returns-in-Cycle : goal.returns-in-Cycle
 unfolding cycle_word
 returns-in-Cycle c =
-    let here = (goal.at.returns-in-Cycle c).After-shared_slice_known-1 in
+    let here = (goal.at.returns-in-Cycle c).Start in
     let n = c.in-Cycle.n in
     let is = c.in-Cycle.is in
     whole (first_line cycle_word n ++ record_lines true c.args.answer.now n) (text_as here is ∙ cycle_text n c.args.answer.now)
-    (put_then c.put_first-at-in-Cycle.ensures.put c.put_records-in-Cycle.ensures) (fits here cycle_word n true (omega arith) (lent_as here is))
+    (put_then c.put_first-at-in-Cycle.ensures.put c.put_records-in-Cycle.ensures) (fits here cycle_word n true (omega arith) (lent_as here is) c.type_inv.answer)
 
 pub returns-in-Refused : goal.returns-in-Refused
 returns-in-Refused c =
     let why = c.in-Refused.why in
-    refusal_whole (text_as (goal.at.returns-in-Refused c).After-shared_slice_known-1 c.in-Refused.is ∙ refusal_text (number_of why) (place_of why) c.args.answer.now) c.number.ensures
+    refusal_whole (text_as (goal.at.returns-in-Refused c).Start c.in-Refused.is ∙ refusal_text (number_of why) (place_of why) c.args.answer.now) c.number.ensures
     c.place.ensures (search rules) (search rules) c.put_refusal.ensures

@@ -20,10 +20,6 @@ line_as c e = ap source_line (sym c.source_of_record.ensures ∙ ap source_says 
 pub put_numbers-requires : goal.put_numbers-requires
 put_numbers-requires c = numbers_fit _ _ _ (search rules) (search rules)
 
--- LOST slice-aggregate-put-bytes
--- slice_aggregate_put_bytes : tie.Need-slice-aggregate-put-bytes
--- slice_aggregate_put_bytes c = search rules
-
 pub returns-in-Of : goal.returns-in-Of
 returns-in-Of c =
     let s = c.in-Of.source in
