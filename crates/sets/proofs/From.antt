@@ -6,12 +6,12 @@ use native.Mathlib.Decide.{ℕ_discrete}
 use mathlib.Core.Path.{◌≡◌, refl, sym, ◌∙◌, ap}
 use mathlib.Core.Bool.{Bool, true, false, ◌&&◌, ◌||◌}
 use mathlib.Core.Logic.{⊎_elim}
-use mathlib.Core.Option.{Option, none, some, get_or}
+use mathlib.Core.Option.{Option, none, some}
 use lib.Dec.{leb}
 use borrow.Author.Tests.{leb-true, le-leb, lt-leb}
-use Rattle.sets.specs.Search.{some_below, some_from, first_below, first_from}
-use Rattle.sets.proofs.Truth.{clash, same_truth, and_true, and_left, and_right, or_cases, or_hit_left, or_hit_right}
-use Rattle.sets.proofs.Searches.{some_hit, some_found, some_none, First, first_none, first_some, first_view, only_between}
+use Rattle.sets.specs.Search.{some_below, some_from, first_below, next_from}
+use Rattle.sets.proofs.Truth.{clash, refuted, same_truth, and_true, and_left, and_right, or_cases, or_hit_left, or_hit_right}
+use Rattle.sets.proofs.Searches.{some_hit, some_found, some_none, First, first_none, first_some, first_view, first_miss, first_hit}
 
 module _ (p : ℕ → Bool) where
   pub from_hit : (k n e : ℕ) → k ≤ e → e < n → p e ≡ true → some_from k n p ≡ true
@@ -48,37 +48,37 @@ module _ (p : ℕ → Bool) where
           ⊎_elim (λ (a : some_from (k + 1) n p ≡ true). let w = from_found (k + 1) n a in from_hit k n w.0 (omega (arith, w.1)) w.2 w.3)
           (λ (a : p k ≡ true). from_hit k n k (omega arith) l a) (or_cases (some_from (k + 1) n p) (p k) h)
 
-  -- the first number from k on: none between k and it passes, and it passes unless it is n
-  pub record FirstFrom (k n r : ℕ) : Type 0 where
-    pub within : r ≤ n
-    pub none_before : (e : ℕ) → k ≤ e → e < r → p e ≡ false
-    pub passes : r < n → (k ≤ r) × (p r ≡ true)
+  -- a search from k on, with all that its result says
+  pub data NextFrom (k n : ℕ) : Option ℕ → Type 0 where
+    next_miss : ((e : ℕ) → k ≤ e → e < n → p e ≡ false) → NextFrom k n none
+    next_hit : {r : ℕ} → k ≤ r → r < n → p r ≡ true → ((e : ℕ) → k ≤ e → e < r → p e ≡ false) → NextFrom k n (some r)
 
-  pub first_from_view : (k n : ℕ) → FirstFrom k n (first_from k n p)
-  unfolding first_from
-  first_from_view k n = go (first_below n q) (first_view q n)
-    where
-      q : ℕ → Bool
-      q e = leb k e && p e
+  module _ (k : ℕ) where
+    -- the test that the search makes
+    abbrev asked : ℕ → Bool
+    asked e = leb k e && p e
 
-      none_from : (e : ℕ) → k ≤ e → q e ≡ false → p e ≡ false
-      none_from e m f = sym (ap (λ (b : Bool). b && p e) (le-leb k e m)) ∙ f
+    fails : (e : ℕ) → (k ≤ e → p e ≡ false) → asked e ≡ false
+    fails e f =
+        refuted (asked e) (λ h. clash (p e) (and_right (leb k e) (p e) h) (f (leb-true k e (and_left (leb k e) (p e) h))))
 
-      go : (o : Option ℕ) → First q n o → FirstFrom k n (get_or o n)
-      go none (first_none f) =
-          record { within = omega arith; none_before = λ e m l. none_from e m (f e l); passes = λ l. absurd (omega (arith, l)) }
-      go (some r) (first_some l h f) =
-          record {
-            within = omega (arith, l);
-            none_before = λ e m z. none_from e m (f e z);
-            passes = λ z. (leb-true k r (and_left (leb k r) (p r) h), and_right (leb k r) (p r) h);
-          }
+    fails_from : (e : ℕ) → k ≤ e → asked e ≡ false → p e ≡ false
+    fails_from e m f = sym (ap (λ (b : Bool). b && p e) (le-leb k e m)) ∙ f
 
-  -- and there is only one
-  pub first_from_is : (k n r : ℕ) → FirstFrom k n r → first_from k n p ≡ r
-  first_from_is k n r w = only (first_from k n p) (first_from_view k n)
-    where
-      only : (a : ℕ) → FirstFrom k n a → a ≡ r
-      only a v =
-          only_between a r (λ (l : a < r). let h = v.passes (omega (arith, l, w.within)) in clash (p a) h.1 (w.none_before a h.0 l))
-          (λ (l : r < a). let h = w.passes (omega (arith, l, v.within)) in clash (p r) h.1 (v.none_before r h.0 l))
+    pub next_view : (n : ℕ) → NextFrom k n (next_from k n p)
+    unfolding next_from
+    next_view n = go (first_below n asked) (first_view asked n)
+      where
+        go : (o : Option ℕ) → First asked n o → NextFrom k n o
+        go none (first_none f) = next_miss (λ e m l. fails_from e m (f e l))
+        go (some r) (first_some l h f) =
+            next_hit {r = r} (leb-true k r (and_left (leb k r) (p r) h)) l (and_right (leb k r) (p r) h) (λ e m z. fails_from e m (f e z))
+
+    pub next_none : (n : ℕ) → ((e : ℕ) → k ≤ e → e < n → p e ≡ false) → next_from k n p ≡ none
+    unfolding next_from
+    next_none n f = first_miss asked n (λ e l. fails e (λ m. f e m l))
+
+    pub next_some : (n r : ℕ) → k ≤ r → r < n → p r ≡ true → ((e : ℕ) → k ≤ e → e < r → p e ≡ false) → next_from k n p ≡ some r
+    unfolding next_from
+    next_some n r m l h f =
+        first_hit asked n r l (λ e z. fails e (λ a. f e a z)) (and_true (leb k r) (p r) (le-leb k r m) h)

@@ -5,15 +5,16 @@ use native.Mathlib.Omega.{arith}
 use native.Mathlib.Decide.{dec_lt}
 use mathlib.Core.Path.{◌≡◌, refl, sym, ◌∙◌, ap}
 use mathlib.Core.Bool.{true, false}
+use mathlib.Core.Option.{none, some}
 use lib.Dec.{eqb}
 use lib.Count.{count_trailing_zeros, under}
 use lib.Pow.{shr-shr}
 use borrow.Author.Tests.{eq-eqb, ne_eqb}
 use Rattle.sets.specs.Bits.{has}
-use Rattle.sets.specs.Search.{first_from}
+use Rattle.sets.specs.Search.{next_from}
 use Rattle.sets.proofs.Truth.{clash, refuted}
 use Rattle.sets.proofs.Members.{half_has, has_low, has_zero, no_member}
-use Rattle.sets.proofs.From.{first_from_is}
+use Rattle.sets.proofs.From.{next_none, next_some}
 
 even_lacks : (x : ℕ) → x % 2 ≡ 0 → has x 0 ≡ false
 unfolding has
@@ -69,28 +70,19 @@ module _ (x k w : ℕ) (fits : x < 2 ^ w) (something : x / 2 ^ k ≡ 0 → ⊥) 
   there : has x (k + zeros) ≡ true
   there = sym (above x k zeros) ∙ trailing_there w (x / 2 ^ k) zeros_low
 
-  pub lowest_from : first_from k w (has x) ≡ k + zeros
-  lowest_from =
-      first_from_is (has x) k w (k + zeros)
-      (record {
-        within = omega (arith, has_low x w (k + zeros) fits there);
-        none_before = λ e m l. before e m l;
-        passes = λ l. (omega arith, there);
-      })
+  pub lowest_from : next_from k w (has x) ≡ some (k + zeros)
+  lowest_from = next_some (has x) k w (k + zeros) (omega arith) (has_low x w (k + zeros) fits there) there before
     where
       before : (e : ℕ) → k ≤ e → e < k + zeros → has x e ≡ false
       before e m l = ap (has x) (omega (arith, m)) ∙ sym (above x k (e - k)) ∙ trailing_none w (x / 2 ^ k) (e - k) (omega (arith, m, l))
 
 -- nothing above
-pub none_from : (x k w : ℕ) → x / 2 ^ k ≡ 0 → first_from k w (has x) ≡ w
-none_from x k w z =
-    first_from_is (has x) k w w (record { within = omega arith; none_before = λ e m l. lacks e m; passes = λ l. absurd (omega (arith, l)) })
+pub none_from : (x k w : ℕ) → x / 2 ^ k ≡ 0 → next_from k w (has x) ≡ none
+none_from x k w z = next_none (has x) k w (λ e m l. lacks e m)
   where
     lacks : (e : ℕ) → k ≤ e → has x e ≡ false
     lacks e m = ap (has x) (omega (arith, m)) ∙ sym (above x k (e - k)) ∙ ap (λ (y : ℕ). has y (e - k)) z ∙ has_zero (e - k)
 
 -- nothing from w on
-pub none_past : (x k w : ℕ) → w ≤ k → first_from k w (has x) ≡ w
-none_past x k w m =
-    first_from_is (has x) k w w
-    (record { within = omega arith; none_before = λ e a l. absurd (omega (arith, m, a, l)); passes = λ l. absurd (omega (arith, l)) })
+pub none_past : (x k w : ℕ) → w ≤ k → next_from k w (has x) ≡ none
+none_past x k w m = next_none (has x) k w (λ e a l. absurd (omega (arith, m, a, l)))

@@ -1,7 +1,8 @@
 -- Searches among the numbers below n, by a test that says yes or no of each number. All definitions of "some", "first" and
 -- "last" of numbers in the crates above are one of these.
 use Rattle.std.specs.Prelude.{ℕ, zero, suc, ◌+◌, Bool, false, ◌&&◌, ◌||◌, not, cond, eqb, leb}
-use Rattle.std.proofs.Math.Option.{Option, none, some, get_or}
+use Rattle.std.specs.Prelude.{Some, None, Option as Found}
+use Rattle.std.proofs.Math.Option.{Option, none, some}
 
 -- some number below n passes the test
 unfoldable pub some_below : ℕ → (ℕ → Bool) → Bool
@@ -27,9 +28,14 @@ unfoldable pub first_below : ℕ → (ℕ → Bool) → Option ℕ
 first_below zero p = none
 first_below (suc n) p = or_else (first_below n p) (cond (p n) (some n) none)
 
--- the first number below n, from k on, that passes the test; n where there is none
-unfoldable pub first_from : ℕ → ℕ → (ℕ → Bool) → ℕ
-first_from k n p = get_or (first_below n (λ e. leb k e && p e)) n
+-- the first number below n, from k on, that passes the test, if there is one
+unfoldable pub next_from : ℕ → ℕ → (ℕ → Bool) → Option ℕ
+next_from k n p = first_below n (λ e. leb k e && p e)
+
+-- what the answer of a search in the code says
+abbrev pub found_says : Found ℕ → Option ℕ
+found_says (Some k) = some k
+found_says None = none
 
 -- how many numbers below n pass the test
 unfoldable pub count_below : ℕ → (ℕ → Bool) → ℕ

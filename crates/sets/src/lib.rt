@@ -1,70 +1,108 @@
 // Sets of numbers below 64, each as the bits of a u64.
 #![tactic(auto)]
 
-ghost use Rattle.std.specs.Prelude.{◌≡◌, ◌&&◌, ◌||◌, not, ℕ, ◌<◌, eqb};
+ghost use Rattle.std.specs.Prelude.{◌≡◌, ◌&&◌, ◌||◌, not, ℕ, ◌<◌, ◌^◌, eqb};
 ghost use Rattle.sets.specs.Bits.{numbers, has};
-ghost use Rattle.sets.specs.Search.{first_from};
+ghost use Rattle.sets.specs.Search.{next_from, found_says};
+
+use std::marker::Model;
 
 // How many numbers there are that a set may have: those below 64.
 pub const NUMBERS: usize = 64;
 
-// Whether the set has i.
-pub fn has_member(set: u64, i: usize) -> bool
-    requires { i < 64 }
-    ensures { result ≡ has set i }
-{
-    (set >> i) % 2 == 1
+// A set of numbers below 64. A clause sees it as the number of its bits, and asks `has` of that.
+#[derive(Clone, Copy, PartialEq, Eq)]
+#[repr(C)]
+pub struct Set {
+    bits: u64,
 }
 
-// The set with i added.
-pub fn with_member(set: u64, i: usize) -> u64
-    requires { i < 64 }
-    ensures { (j : ℕ) → has result j ≡ (has set j || eqb i j) }
-{
-    set | (1 << i)
+impl Model for Set {
+    ghost Value = { ℕ };
+
+    ghost view = { λ s. s.bits };
+
+    ghost invariant = { λ s. s.bits < 2 ^ 64 };
+
+    ghost inverse = { λ n. record { bits = n } };
 }
 
-// The set without i: put in first, so that turning its bit over takes it out.
-pub fn without_member(set: u64, i: usize) -> u64
-    requires { i < 64 }
-    ensures { (j : ℕ) → has result j ≡ (has set j && not (eqb i j)) }
-{
-    let own: u64 = 1 << i;
-    (set | own) ^ own
-}
+impl Set {
+    pub const EMPTY: Set = Set { bits: 0 };
 
-// What is in one of the two sets, or in both.
-pub fn union(a: u64, b: u64) -> u64
-    ensures { (j : ℕ) → has result j ≡ (has a j || has b j) }
-{
-    a | b
-}
-
-// What is in both sets.
-pub fn common(a: u64, b: u64) -> u64
-    ensures { (j : ℕ) → has result j ≡ (has a j && has b j) }
-{
-    a & b
-}
-
-// The set where the test holds, and else nothing. What is joined so costs the same either way: of a log's records nobody can foretell
-// which are writes, and a branch that was foretold wrongly costs more than the work it saves.
-pub fn only_if(test: bool, set: u64) -> u64
-    ensures { (j : ℕ) → has result j ≡ (test && has set j) }
-{
-    if test { set } else { 0 }
-}
-
-// The lowest number that the set has from the given one on; NUMBERS where it has none.
-pub fn member_from(set: u64, from: usize) -> usize
-    ensures { result ≡ first_from from numbers (has set) }
-{
-    if NUMBERS <= from {
-        return NUMBERS;
+    // The set of these bits.
+    pub fn of_bits(bits: u64) -> Set
+        ensures { result ≡ bits }
+    {
+        Set { bits }
     }
-    let above = set >> from;
-    if above == 0 {
-        return NUMBERS;
+
+    // Whether the set has i.
+    pub fn has(self, i: usize) -> bool
+        requires { i < 64 }
+        ensures { result ≡ has self i }
+    {
+        (self.bits >> i) % 2 == 1
     }
-    from + u64::trailing_zeros(above) as usize
+
+    // The set with i added.
+    pub fn with(self, i: usize) -> Set
+        requires { i < 64 }
+        ensures { (j : ℕ) → has result j ≡ (has self j || eqb i j) }
+    {
+        Set {
+            bits: self.bits | (1 << i),
+        }
+    }
+
+    // The set without i: put in first, so that turning its bit over takes it out.
+    pub fn without(self, i: usize) -> Set
+        requires { i < 64 }
+        ensures { (j : ℕ) → has result j ≡ (has self j && not (eqb i j)) }
+    {
+        let own: u64 = 1 << i;
+        Set {
+            bits: (self.bits | own) ^ own,
+        }
+    }
+
+    // What is in one of the two sets, or in both.
+    pub fn union(self, other: Set) -> Set
+        ensures { (j : ℕ) → has result j ≡ (has self j || has other j) }
+    {
+        Set {
+            bits: self.bits | other.bits,
+        }
+    }
+
+    // What is in both sets.
+    pub fn common(self, other: Set) -> Set
+        ensures { (j : ℕ) → has result j ≡ (has self j && has other j) }
+    {
+        Set {
+            bits: self.bits & other.bits,
+        }
+    }
+
+    // The set where the test holds, and else nothing. What is joined so costs the same either way: of a log's records nobody can
+    // foretell which are writes, and a branch that was foretold wrongly costs more than the work it saves.
+    pub fn only_if(self, test: bool) -> Set
+        ensures { (j : ℕ) → has result j ≡ (test && has self j) }
+    {
+        if test { self } else { Set::EMPTY }
+    }
+
+    // The lowest number that the set has from the given one on, if it has one.
+    pub fn next_from(self, from: usize) -> Option<usize>
+        ensures { found_says result ≡ next_from from numbers (has self) }
+    {
+        if NUMBERS <= from {
+            return None;
+        }
+        let above = self.bits >> from;
+        if above == 0 {
+            return None;
+        }
+        Some(from + above.trailing_zeros() as usize)
+    }
 }
