@@ -1,4 +1,5 @@
 // The format of a log: its records, as their bytes stand, and the copies that they name.
 #![tactic(auto)]
 
+pub mod kind;
 pub mod record;

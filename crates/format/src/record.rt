@@ -1,6 +1,9 @@
 // What a log is made of: records of four bytes, and the copies that they name.
 ghost use Rattle.std.specs.Prelude.{◌≡◌, ◌*◌, ◌<◌};
 ghost use Rattle.rules.specs.Record.{transactions, items, sites, kind, transaction, item, site, records, copy_number, copy_of, Within};
+ghost use Rattle.format.specs.Kind.{is_of};
+
+use crate::kind::Kind;
 
 // A record's bytes: kind, transaction, item, site.
 pub const RECORD_BYTES: usize = 4;
@@ -9,19 +12,12 @@ pub const MOST_RECORDS: usize = 4096;
 
 pub const MOST_BYTES: usize = MOST_RECORDS * RECORD_BYTES;
 
-// The kinds.
-pub const READ: u8 = 1;
-
-pub const WRITE: u8 = 2;
-
-pub const COMMIT: u8 = 3;
-
 pub const TRANSACTIONS: usize = 64;
 
 pub const LAST_TRANSACTION: u8 = (TRANSACTIONS - 1) as u8;
 
 // A copy is an item at a site, each within its limit.
-#[derive(Clone, Copy)]
+#[derive(Clone, Copy, Debug, PartialEq, Eq)]
 pub struct Copy {
     pub item: u8,
     pub site: u8,
@@ -50,12 +46,12 @@ impl Copy {
         requires { (self.item < items) × (self.site < sites) }
         ensures { (result ≡ copy_number self.item self.site) × (result < items * sites) }
     {
-        (self.item as usize) * Copy::SITES + self.site as usize
+        usize::from(self.item) * Copy::SITES + usize::from(self.site)
     }
 }
 
 // A record, as its bytes stand in the log.
-#[derive(Clone, Copy)]
+#[derive(Clone, Copy, Debug, PartialEq, Eq)]
 pub struct Record {
     pub kind: u8,
     pub transaction: u8,
@@ -89,12 +85,13 @@ pub fn record_at(log: &[u8], k: usize) -> Record
     }
 }
 
-// The kind byte of record k.
-pub fn kind_at(log: &[u8], k: usize) -> u8
+// Whether record k is of this kind.
+#[tactic(auto, unfolding(rules::specs::Record::is_read, rules::specs::Record::is_write, rules::specs::Record::is_commit, rules::specs::Record::read_kind, rules::specs::Record::write_kind, rules::specs::Record::commit_kind))]
+pub fn has_kind(log: &[u8], k: usize, kind: Kind) -> bool
     requires { k < records log.now }
-    ensures { result ≡ kind log.now k }
+    ensures { result ≡ is_of kind log.now k }
 {
-    record_at(log, k).kind
+    record_at(log, k).kind == kind as u8
 }
 
 // The transaction of a record within the limits.
@@ -102,7 +99,7 @@ pub fn transaction_at(log: &[u8], k: usize) -> usize
     requires { Within log.now k }
     ensures { (result ≡ transaction log.now k) × (result < transactions) }
 {
-    record_at(log, k).transaction as usize
+    usize::from(record_at(log, k).transaction)
 }
 
 // The item of a record within the limits.
@@ -110,7 +107,7 @@ pub fn item_at(log: &[u8], k: usize) -> usize
     requires { Within log.now k }
     ensures { (result ≡ item log.now k) × (result < items) }
 {
-    record_at(log, k).item as usize
+    usize::from(record_at(log, k).item)
 }
 
 // The number of the copy of a record within the limits.

@@ -8,8 +8,7 @@ use Rattle.refusals.specs.Numbers.{number_of, place_of, checked_says}
 use Rattle.refusals.specs.declared.refusal.Refusal.{Refusal}
 use Rattle.refusals.specs.declared.refusal.Refusal.TheVariants.{TooLong, Ragged, ShortBuffer, BadKind, OutOfRange, AfterCommit}
 use Rattle.refusals.specs.declared.refusal.Refusal.TheVariants.{ReadsUnwritten, ReadsPastOwn, NeverCommits, BadQuestion}
-use Rattle.refusals.specs.declared.refusal.Checked.{Checked}
-use Rattle.refusals.specs.declared.refusal.Checked.TheVariants.{Passed, Refused}
+use Rattle.std.specs.Prelude.{Result, Ok, Err}
 use Rattle.rules.proofs.Answers.{said_number, said_place}
 
 -- the refusal of a number and a place: the cases stand in the order of their numbers
@@ -46,8 +45,8 @@ no_zero (ReadsPastOwn k) e = omega arith
 no_zero (NeverCommits k) e = omega arith
 no_zero BadQuestion e = omega arith
 
-pub same_checked : (a b : Checked) → checked_says a ≡ checked_says b → a ≡ b
-same_checked Passed Passed e = refl
-same_checked Passed (Refused s) e = absurd (no_zero s (sym (ap said_number e)))
-same_checked (Refused r) Passed e = absurd (no_zero r (ap said_number e))
-same_checked (Refused r) (Refused s) e = ap Refused (same_refusal r s (ap said_number e) (ap said_place e))
+pub same_checked : (a b : Result (Unit {0}) Refusal) → checked_says a ≡ checked_says b → a ≡ b
+same_checked (Ok x) (Ok y) e = refl
+same_checked (Ok x) (Err s) e = absurd (no_zero s (sym (ap said_number e)))
+same_checked (Err r) (Ok y) e = absurd (no_zero r (ap said_number e))
+same_checked (Err r) (Err s) e = ap Err (same_refusal r s (ap said_number e) (ap said_place e))

@@ -1,12 +1,10 @@
 -- The numbers and places of document 01 for each case of the code's refusals. Every promise about a refusal speaks through these
 -- definitions.
-use Rattle.std.specs.Prelude.{ℕ}
+use Rattle.std.specs.Prelude.{ℕ, Result, Ok, Err}
 use Rattle.rules.specs.Answer.{Answer, refused, passed}
 use Rattle.refusals.specs.declared.refusal.Refusal.{Refusal}
 use Rattle.refusals.specs.declared.refusal.Refusal.TheVariants.{TooLong, Ragged, ShortBuffer, BadKind, OutOfRange, AfterCommit}
 use Rattle.refusals.specs.declared.refusal.Refusal.TheVariants.{ReadsUnwritten, ReadsPastOwn, NeverCommits, BadQuestion}
-use Rattle.refusals.specs.declared.refusal.Checked.{Checked}
-use Rattle.refusals.specs.declared.refusal.Checked.TheVariants.{Passed, Refused}
 
 abbrev pub number_of : Refusal → ℕ
 number_of TooLong = 1
@@ -33,6 +31,6 @@ place_of (NeverCommits k) = k
 place_of BadQuestion = 0
 
 -- what the answer of a check says
-abbrev pub checked_says : Checked → Answer (Unit {0})
-checked_says Passed = passed
-checked_says (Refused r) = refused (number_of r) (place_of r)
+abbrev pub checked_says : Result (Unit {0}) Refusal → Answer (Unit {0})
+checked_says (Ok x) = passed
+checked_says (Err r) = refused (number_of r) (place_of r)

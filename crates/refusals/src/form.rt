@@ -5,38 +5,33 @@ ghost use Rattle.rules.specs.Record.{transactions};
 ghost use Rattle.rules.specs.Rows.{row_answer, answer_of};
 ghost use Rattle.refusals.specs.Numbers.{checked_says};
 
-use crate::refusal::{Checked, Refusal};
-use format::record::{COMMIT, Copy, LAST_TRANSACTION, READ, WRITE};
+use crate::refusal::Refusal;
+use format::kind::Kind;
+use format::record::{Copy, LAST_TRANSACTION, Record};
 
 // Number 5 for the transaction, which every kind of record names from the same range.
-fn transaction_form(k: usize, transaction: u8) -> Checked
+fn transaction_form(k: usize, transaction: u8) -> Result<(), Refusal>
     ensures { checked_says result ≡ row_answer 5 (not (ltb transaction transactions)) k }
 {
     match transaction {
-        0..=LAST_TRANSACTION => Checked::Passed,
-        _ => Checked::Refused(Refusal::OutOfRange(k)),
+        0..=LAST_TRANSACTION => Ok(()),
+        _ => Err(Refusal::OutOfRange(k)),
     }
 }
 
-// Numbers 4 and 5 for the bytes of the record at place k. A read or a write names any copy, a commit item 0 and site 0.
-pub fn form_answer(k: usize, kind: u8, transaction: u8, item: u8, site: u8) -> Checked
-    ensures { checked_says result ≡ answer_of (form_rows k kind transaction item site) }
+// Numbers 4 and 5 for the record at place k. A read or a write names any copy, a commit item 0 and site 0.
+pub fn form_answer(k: usize, record: Record) -> Result<(), Refusal>
+    ensures { checked_says result ≡ answer_of (form_rows k record.kind record.transaction record.item record.site) }
 {
-    match kind {
-        READ | WRITE => match item {
-            0..=Copy::LAST_ITEM => match site {
-                0..=Copy::LAST_SITE => transaction_form(k, transaction),
-                _ => Checked::Refused(Refusal::OutOfRange(k)),
-            },
-            _ => Checked::Refused(Refusal::OutOfRange(k)),
+    match record.kind {
+        Kind::READ | Kind::WRITE => match (record.item, record.site) {
+            (0..=Copy::LAST_ITEM, 0..=Copy::LAST_SITE) => transaction_form(k, record.transaction),
+            _ => Err(Refusal::OutOfRange(k)),
         },
-        COMMIT => match item {
-            0 => match site {
-                0 => transaction_form(k, transaction),
-                _ => Checked::Refused(Refusal::OutOfRange(k)),
-            },
-            _ => Checked::Refused(Refusal::OutOfRange(k)),
+        Kind::COMMIT => match (record.item, record.site) {
+            (0, 0) => transaction_form(k, record.transaction),
+            _ => Err(Refusal::OutOfRange(k)),
         },
-        _ => Checked::Refused(Refusal::BadKind(k)),
+        _ => Err(Refusal::BadKind(k)),
     }
 }

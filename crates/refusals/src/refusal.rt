@@ -1,9 +1,9 @@
-// Refusals, with a case for each number of document 01, and the answer of a check.
+// Refusals, with a case for each number of document 01. A check answers `Ok(())`, or the refusal that applies.
 ghost use Rattle.std.specs.Prelude.{◌≡◌};
 ghost use Rattle.refusals.specs.Numbers.{number_of, place_of};
 
 // The cases that are found at a record carry its place.
-#[derive(Clone, Copy)]
+#[derive(Clone, Copy, Debug, PartialEq, Eq)]
 pub enum Refusal {
     TooLong,
     Ragged,
@@ -41,23 +41,13 @@ impl Refusal {
         ensures { result ≡ place_of self }
     {
         match self {
-            Refusal::TooLong => 0,
-            Refusal::Ragged => 0,
-            Refusal::ShortBuffer => 0,
-            Refusal::BadKind(k) => k,
-            Refusal::OutOfRange(k) => k,
-            Refusal::AfterCommit(k) => k,
-            Refusal::ReadsUnwritten(k) => k,
-            Refusal::ReadsPastOwn(k) => k,
-            Refusal::NeverCommits(k) => k,
-            Refusal::BadQuestion => 0,
+            Refusal::TooLong | Refusal::Ragged | Refusal::ShortBuffer | Refusal::BadQuestion => 0,
+            Refusal::BadKind(k)
+            | Refusal::OutOfRange(k)
+            | Refusal::AfterCommit(k)
+            | Refusal::ReadsUnwritten(k)
+            | Refusal::ReadsPastOwn(k)
+            | Refusal::NeverCommits(k) => k,
         }
     }
-}
-
-// The answer of a check.
-#[derive(Clone, Copy)]
-pub enum Checked {
-    Passed,
-    Refused(Refusal),
 }

@@ -6,4 +6,4 @@ use Rattle.format.proofs.record.Copy.number.Goals as goal
 
 pub returns : goal.returns
 unfolding copy_number
-returns c = (refl, omega arith)
+returns c = rw (c.from.ensures, c.from-2.ensures) (refl, omega arith)
