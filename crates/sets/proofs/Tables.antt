@@ -15,10 +15,15 @@ use lib.ListN.{get_or-replicate}
 use lib.Seq.{get_or-set_same, get_or-set_other, ext_get_or, get_or-append_seam}
 use lib.Bits.{or_shifted}
 use borrow.Author.Tests.{eq-eqb, ne_eqb, lt-ltb, le-ltb}
+use Rattle.std.proofs.lemmas.List.{get_or_default}
 use Rattle.sets.specs.Bits.{has, in_row, set_of, table_of, Holds}
 use Rattle.sets.proofs.Truth.{either, refuted, and_always, and_nothing, or_nothing}
 use Rattle.sets.proofs.Searches.{below_cases}
 use Rattle.sets.proofs.Members.{has_zero, has_or, has_power, same_members}
+
+-- what the code reads at i of a table, under any default of its own, is the set there
+pub row_read : (table : List ℕ) (i d : ℕ) {r : ℕ} → r ≡ get_or table i d → i < length table → (j : ℕ) → has r j ≡ in_row table i j
+row_read table i d e l j = ap (λ (x : ℕ). has x j) (e ∙ get_or_default table i d 0 l)
 
 -- an entry of a table of sets, after a set was joined to the entry c: the old one, and that set where the entry is c
 stored : (table : List ℕ) (c v : ℕ) (joined : ℕ → Bool) → c < length table → ((j : ℕ) → has v j ≡ (has (get_or table c 0) j || joined j))

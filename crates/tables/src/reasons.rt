@@ -1,53 +1,72 @@
-// Tables of edges, in which bit j of number i is for an edge from i to j: a table for each reason, and one of all edges.
+// The three reasons for an edge, and tables of edges, in which bit j of number i is for an edge from i to j: a table for each reason.
 ghost use Rattle.std.specs.Prelude.{◌≡◌, ◌<◌, length};
 ghost use Rattle.sets.specs.Bits.{Holds};
 ghost use Rattle.rules.specs.Record.{transactions};
-ghost use Rattle.tables.specs.ReasonTables.{any_reason, lowest_in};
 
 use format::record::TRANSACTIONS;
+use sets::Set;
 
-// The lowest reason of an edge from i to j, by the edges of each reason.
-pub fn lowest_reason(
-    by_conflict: &[u64; TRANSACTIONS],
-    by_order: &[u64; TRANSACTIONS],
-    by_read: &[u64; TRANSACTIONS],
-    i: usize,
-    j: usize,
-) -> u8
-    requires { (i < transactions) × (j < transactions) }
-    ensures { result ≡ lowest_in by_conflict.now by_order.now by_read.now i j }
-{
-    if i == j {
-        return 0;
-    }
-    if sets::has_member(by_conflict[i], j) {
-        return 1;
-    }
-    if sets::has_member(by_order[i], j) {
-        return 2;
-    }
-    if sets::has_member(by_read[i], j) {
-        return 3;
-    }
-    0
+// Why one transaction comes before another, by document 01's numbers.
+#[derive(Clone, Copy, Debug, PartialEq, Eq)]
+pub enum Reason {
+    Conflict = 1,
+    WriteOrder = 2,
+    ReadBefore = 3,
 }
 
-// One table of every edge: those of all three reasons, none of them from a transaction to itself.
-pub fn joined(
-    by_conflict: &[u64; TRANSACTIONS],
-    by_order: &[u64; TRANSACTIONS],
-    by_read: &[u64; TRANSACTIONS],
-    table: &mut [u64; TRANSACTIONS],
-)
-    requires conflict_rows { length by_conflict.now ≡ transactions }
-    requires order_rows { length by_order.now ≡ transactions }
-    requires read_rows { length by_read.now ≡ transactions }
-    ensures { Holds transactions (any_reason by_conflict.now by_order.now by_read.now) table.new }
-{
-    let mut rows = [0u64; TRANSACTIONS];
-    for i in 0..TRANSACTIONS {
-        let all = sets::union(sets::union(by_conflict[i], by_order[i]), by_read[i]);
-        rows[i] = sets::without_member(all, i);
+impl Reason {
+    ghost use Rattle.tables.specs.Numbers.{number_of};
+
+    pub fn number(self) -> u8
+        ensures { result ≡ number_of self }
+    {
+        self as u8
     }
-    *table = rows;
+}
+
+// The edges of each reason.
+#[derive(Clone, Copy)]
+pub struct ReasonTables {
+    pub by_conflict: [Set; TRANSACTIONS],
+    pub by_order: [Set; TRANSACTIONS],
+    pub by_read: [Set; TRANSACTIONS],
+}
+
+impl ReasonTables {
+    ghost use Rattle.tables.specs.Numbers.{reason_says};
+    ghost use Rattle.tables.specs.ReasonTables.{any_reason, lowest_in};
+
+    // The lowest reason of an edge from i to j, if there is one.
+    pub fn lowest_reason(&self, i: usize, j: usize) -> Option<Reason>
+        requires { (i < transactions) × (j < transactions) }
+        ensures { reason_says result ≡ lowest_in self.now.by_conflict self.now.by_order self.now.by_read i j }
+    {
+        if i == j {
+            return None;
+        }
+        if self.by_conflict[i].has(j) {
+            return Some(Reason::Conflict);
+        }
+        if self.by_order[i].has(j) {
+            return Some(Reason::WriteOrder);
+        }
+        if self.by_read[i].has(j) {
+            return Some(Reason::ReadBefore);
+        }
+        None
+    }
+
+    // One table of every edge: those of all three reasons, none of them from a transaction to itself.
+    pub fn joined(&self) -> [Set; TRANSACTIONS]
+        ensures { Holds transactions (any_reason self.now.by_conflict self.now.by_order self.now.by_read) result }
+    {
+        let mut rows = [Set::EMPTY; TRANSACTIONS];
+        for i in 0..TRANSACTIONS {
+            let all = self.by_conflict[i]
+                .union(self.by_order[i])
+                .union(self.by_read[i]);
+            rows[i] = all.without(i);
+        }
+        rows
+    }
 }

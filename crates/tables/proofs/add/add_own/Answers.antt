@@ -1,7 +1,8 @@
 -- `tables::add::add_own` meets its contract: one set is stored, the old one with the transaction added where the record counts.
-use Rattle.std.proofs.Common.{Bool, ap, eqb, false, refl, sym, true, ℕ, ◌&&◌, ◌||◌, ◌∙◌, ◌≡◌}
-use Rattle.sets.specs.Bits.{has, in_row}
+use Rattle.std.proofs.Common.{Bool, ap, ap₂, eqb, false, refl, sym, true, ℕ, ◌&&◌, ◌||◌, ◌∙◌, ◌≡◌}
+use Rattle.sets.specs.Bits.{has}
 use Rattle.sets.proofs.Members.{has_zero}
+use Rattle.sets.proofs.Tables.{row_read}
 use Rattle.sets.proofs.Gathered.{added_store}
 use Rattle.histories.specs.History.{is_by}
 use Rattle.histories.proofs.OfTransactions.{by_is}
@@ -27,14 +28,14 @@ returns c =
     let at = c.args.c in
     let counts = c.args.counts in
     let t = c.transaction_at in
-    let own : (j : ℕ) → has c.with_member-own.result j ≡ is_by (history_of log) k j =
+    let own : (j : ℕ) → has c.with-own.result j ≡ is_by (history_of log) k j =
     λ j.
-    c.with_member-own.ensures j
+    c.with-own.ensures j
     ∙ ap (λ (b : Bool). b || eqb t.result j) (has_zero j)
     ∙ ap (λ (x : ℕ). eqb x j) t.ensures.0
     ∙ sym (by_is (history_of log) k j) in
     let joined : (j : ℕ) → has c.only_if.result j ≡ (counts && is_by (history_of log) k j) =
     λ j. c.only_if.ensures j ∙ ap (λ (b : Bool). counts && b) (own j) in
     added_store (λ d j. is_by (history_of log) k j && (counts && eqb at d)) old at c.union.result (λ j. counts && is_by (history_of log) k j) c.requires.row_there
-    (λ j. c.union.ensures j ∙ ap (λ (b : Bool). in_row old at j || b) (joined j))
+    (λ j. c.union.ensures j ∙ ap₂ (λ (a b : Bool). a || b) (row_read old at _ c.index-table-c.is c.requires.row_there j) (joined j))
     (λ d j. turned_round (is_by (history_of log) k j) counts (eqb at d))
