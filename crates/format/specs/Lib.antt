@@ -1,1 +1,2 @@
 pub mod Kind
+pub mod Place

@@ -4,6 +4,7 @@ ghost use Rattle.rules.specs.Record.{transactions, items, sites, kind, transacti
 ghost use Rattle.format.specs.Kind.{is_of};
 
 use crate::kind::Kind;
+use std::marker::Model;
 
 // A record's bytes: kind, transaction, item, site.
 pub const RECORD_BYTES: usize = 4;
@@ -50,9 +51,9 @@ impl Copy {
     }
 }
 
-// A record, as its bytes stand in the log.
+// The four bytes of a record, as they stand in the log.
 #[derive(Clone, Copy, Debug, PartialEq, Eq)]
-pub struct Record {
+pub struct RecordBytes {
     pub kind: u8,
     pub transaction: u8,
     pub item: u8,
@@ -67,9 +68,9 @@ pub fn record_count(log: &[u8]) -> usize
     log.len() / RECORD_BYTES
 }
 
-// The record at place k.
+// The bytes of the record at place k.
 #[tactic(auto, unfolding(rules::specs::Record::records, rules::specs::Record::kind, rules::specs::Record::transaction, rules::specs::Record::item, rules::specs::Record::site))]
-pub fn record_at(log: &[u8], k: usize) -> Record
+pub fn bytes_at(log: &[u8], k: usize) -> RecordBytes
     requires { k < records log.now }
     ensures { (result.kind ≡ kind log.now k)
         × (result.transaction ≡ transaction log.now k)
@@ -77,7 +78,7 @@ pub fn record_at(log: &[u8], k: usize) -> Record
         × (result.site ≡ site log.now k) }
 {
     let at = k * RECORD_BYTES;
-    Record {
+    RecordBytes {
         kind: log[at],
         transaction: log[at + 1],
         item: log[at + 2],
@@ -85,36 +86,64 @@ pub fn record_at(log: &[u8], k: usize) -> Record
     }
 }
 
-// Whether record k is of this kind.
-#[tactic(auto, unfolding(rules::specs::Record::is_read, rules::specs::Record::is_write, rules::specs::Record::is_commit, rules::specs::Record::read_kind, rules::specs::Record::write_kind, rules::specs::Record::commit_kind))]
-pub fn has_kind(log: &[u8], k: usize, kind: Kind) -> bool
-    requires { k < records log.now }
-    ensures { result ≡ is_of kind log.now k }
-{
-    record_at(log, k).kind == kind as u8
+// A record whose numbers are within the limits. A clause sees in which log it stands, and at which place.
+#[derive(Drop)]
+pub struct Record<'a> {
+    log: &'a [u8],
+    place: usize,
 }
 
-// The transaction of a record within the limits.
-pub fn transaction_at(log: &[u8], k: usize) -> usize
-    requires { Within log.now k }
-    ensures { (result ≡ transaction log.now k) × (result < transactions) }
-{
-    usize::from(record_at(log, k).transaction)
+impl<'a> Model for Record<'a> {
+    ghost use Rattle.rules.specs.Record.{Within};
+    ghost use Rattle.format.specs.Place.{Place};
+
+    ghost Value = { Place };
+
+    ghost view = { λ r. record { log = r.log.now; place = r.place } };
+
+    ghost invariant = { λ r. Within r.log.now r.place };
 }
 
-// The item of a record within the limits.
-pub fn item_at(log: &[u8], k: usize) -> usize
-    requires { Within log.now k }
-    ensures { (result ≡ item log.now k) × (result < items) }
-{
-    usize::from(record_at(log, k).item)
-}
+impl<'a> Record<'a> {
+    pub fn at(log: &'a [u8], k: usize) -> Record<'a>
+        requires { Within log.now k }
+        ensures { (result.log ≡ log.now) × (result.place ≡ k) }
+    {
+        Record { log, place: k }
+    }
 
-// The number of the copy of a record within the limits.
-pub fn copy_at(log: &[u8], k: usize) -> usize
-    requires { Within log.now k }
-    ensures { (result ≡ copy_of log.now k) × (result < items * sites) }
-{
-    let r = record_at(log, k);
-    Copy::new(r.item, r.site).number()
+    pub fn place(&self) -> usize
+        ensures place { result ≡ self.now.place }
+        ensures within { Within self.now.log self.now.place }
+    {
+        self.place
+    }
+
+    // Whether it is of this kind.
+    #[tactic(auto, unfolding(rules::specs::Record::is_read, rules::specs::Record::is_write, rules::specs::Record::is_commit, rules::specs::Record::read_kind, rules::specs::Record::write_kind, rules::specs::Record::commit_kind))]
+    pub fn is(&self, kind: Kind) -> bool
+        ensures { result ≡ is_of kind self.now.log self.now.place }
+    {
+        bytes_at(self.log, self.place).kind == kind as u8
+    }
+
+    pub fn transaction(&self) -> usize
+        ensures { (result ≡ transaction self.now.log self.now.place) × (result < transactions) }
+    {
+        usize::from(bytes_at(self.log, self.place).transaction)
+    }
+
+    pub fn item(&self) -> usize
+        ensures { (result ≡ item self.now.log self.now.place) × (result < items) }
+    {
+        usize::from(bytes_at(self.log, self.place).item)
+    }
+
+    // The number of its copy.
+    pub fn copy(&self) -> usize
+        ensures { (result ≡ copy_of self.now.log self.now.place) × (result < items * sites) }
+    {
+        let bytes = bytes_at(self.log, self.place);
+        Copy::new(bytes.item, bytes.site).number()
+    }
 }

@@ -1,37 +1,34 @@
 // Tables of sets of transactions: how a record of a log is kept in one.
 ghost use Rattle.std.specs.Prelude.{◌≡◌, ◌<◌, length};
-ghost use Rattle.rules.specs.Record.{Within, transactions};
+ghost use Rattle.rules.specs.Record.{transactions};
 ghost use Rattle.tables.specs.Kept.{AddedOwn, AddedWriter, AddedToRow};
 
 use format::kind::Kind;
-use format::record::{TRANSACTIONS, has_kind, transaction_at};
+use format::record::{Record, TRANSACTIONS};
 use sets::Set;
 
-// The transaction of record k joins the set at c, where the record counts.
-pub fn add_own(log: &[u8], k: usize, c: usize, counts: bool, table: &mut [Set])
-    requires within { Within log.now k }
+// The transaction of a record joins the set at c, where the record counts.
+pub fn add_own(record: &Record<'_>, c: usize, counts: bool, table: &mut [Set])
     requires row_there { c < length table.old }
-    ensures { AddedOwn log.now k c counts table.old table.new }
+    ensures { AddedOwn record.now.log record.now.place c counts table.old table.new }
 {
-    let own = Set::EMPTY.with(transaction_at(log, k));
+    let own = Set::EMPTY.with(record.transaction());
     table[c] = table[c].union(own.only_if(counts));
 }
 
 // The transaction of a write joins the set at c.
-pub fn add_writer(log: &[u8], k: usize, c: usize, table: &mut [Set])
-    requires within { Within log.now k }
+pub fn add_writer(record: &Record<'_>, c: usize, table: &mut [Set])
     requires row_there { c < length table.old }
-    ensures { AddedWriter log.now k c table.old table.new }
+    ensures { AddedWriter record.now.log record.now.place c table.old table.new }
 {
-    add_own(log, k, c, has_kind(log, k, Kind::Write), table);
+    add_own(record, c, record.is(Kind::Write), table);
 }
 
-// The set joins the row of record k's transaction.
-pub fn add_to_row(log: &[u8], k: usize, to: Set, table: &mut [Set; TRANSACTIONS])
-    requires within { Within log.now k }
+// The set joins the row of the record's transaction.
+pub fn add_to_row(record: &Record<'_>, to: Set, table: &mut [Set; TRANSACTIONS])
     requires whole { length table.old ≡ transactions }
-    ensures { AddedToRow log.now k to table.old table.new }
+    ensures { AddedToRow record.now.log record.now.place to table.old table.new }
 {
-    let i = transaction_at(log, k);
+    let i = record.transaction();
     table[i] = table[i].union(to);
 }

@@ -22,12 +22,12 @@ turned_round false false false = refl
 
 pub returns : goal.returns
 returns c =
-    let log = c.args.log.now in
-    let k = c.args.k in
+    let log = c.args.record.now.log in
+    let k = c.args.record.now.place in
     let old = c.args.table.now in
     let at = c.args.c in
     let counts = c.args.counts in
-    let t = c.transaction_at in
+    let t = c.transaction in
     let own : (j : ℕ) → has c.with-own.result j ≡ is_by (history_of log) k j =
     λ j.
     c.with-own.ensures j

@@ -10,11 +10,11 @@ use Rattle.tables.proofs.add.add_to_row.Goals as goal
 
 pub returns : goal.returns
 returns c =
-    let log = c.args.log.now in
-    let k = c.args.k in
+    let log = c.args.record.now.log in
+    let k = c.args.record.now.place in
     let old = c.args.table.now in
     let to = c.args.to in
-    let t = c.transaction_at-i in
+    let t = c.transaction-i in
     let own : (i : ℕ) → is_by (history_of log) k i ≡ eqb t.result i = λ i. by_is (history_of log) k i ∙ ap (λ (x : ℕ). eqb x i) (sym t.ensures.0) in
     let there : t.result < length old = rw c.requires.whole t.ensures.1 in
     added_store (λ i j. is_by (history_of log) k i && has to j) old t.result c.union.result (has to) there
