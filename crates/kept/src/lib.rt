@@ -2,7 +2,7 @@
 #![tactic(auto)]
 
 ghost use Rattle.std.specs.Prelude.{◌≡◌, true, ◌+◌, ℕ, List};
-ghost use Rattle.rules.specs.Record.{Within, is_read, records};
+ghost use Rattle.rules.specs.Record.{is_read, records};
 ghost use Rattle.rules.specs.Refusals.{read_rows, history_rows, end_rows};
 ghost use Rattle.rules.specs.Rows.{answer_of};
 ghost use Rattle.rules.specs.LogHistory.{history_of};
@@ -10,7 +10,7 @@ ghost use Rattle.refusals.specs.Numbers.{checked_says};
 ghost use Rattle.kept.specs.Kept.{KeptBefore};
 
 use format::kind::Kind;
-use format::record::{Copy, TRANSACTIONS, copy_at, has_kind, item_at, transaction_at};
+use format::record::{Copy, Record, TRANSACTIONS};
 use refusals::refusal::Refusal;
 use sets::Set;
 
@@ -39,57 +39,54 @@ impl Kept {
         }
     }
 
-    // Numbers 6 to 8 at record k, which is of right form.
-    pub fn history_answer(&self, log: &[u8], k: usize) -> Result<(), Refusal>
-        requires within { Within log.now k }
-        requires kept { KeptBefore log.now k self.now }
-        ensures { checked_says result ≡ answer_of (history_rows (history_of log.now) k) }
+    // Numbers 6 to 8 at a record, which is of right form.
+    pub fn history_answer(&self, r: &Record<'_>) -> Result<(), Refusal>
+        requires kept { KeptBefore r.now.log r.now.place self.now }
+        ensures { checked_says result ≡ answer_of (history_rows (history_of r.now.log) r.now.place) }
     {
-        if self.committed.has(transaction_at(log, k)) {
-            return Err(Refusal::AfterCommit(k));
+        if self.committed.has(r.transaction()) {
+            return Err(Refusal::AfterCommit(r.place()));
         }
-        if has_kind(log, k, Kind::Read) {
-            return self.read_answer(log, k);
+        if r.is(Kind::Read) {
+            return self.read_answer(r);
         }
         Ok(())
     }
 
-    // Numbers 7 and 8 at record k, a read.
-    fn read_answer(&self, log: &[u8], k: usize) -> Result<(), Refusal>
-        requires within { Within log.now k }
-        requires reads { is_read log.now k ≡ true }
-        requires kept { KeptBefore log.now k self.now }
-        ensures { checked_says result ≡ answer_of (read_rows (history_of log.now) k) }
+    // Numbers 7 and 8 at a read.
+    fn read_answer(&self, r: &Record<'_>) -> Result<(), Refusal>
+        requires reads { is_read r.now.log r.now.place ≡ true }
+        requires kept { KeptBefore r.now.log r.now.place self.now }
+        ensures { checked_says result ≡ answer_of (read_rows (history_of r.now.log) r.now.place) }
     {
-        let t = transaction_at(log, k);
-        let writers = self.copy_writers[copy_at(log, k)];
+        let t = r.transaction();
+        let writers = self.copy_writers[r.copy()];
         if writers == Set::EMPTY {
-            return Err(Refusal::ReadsUnwritten(k));
+            return Err(Refusal::ReadsUnwritten(r.place()));
         }
-        if self.item_writers[item_at(log, k)].has(t) && !writers.has(t) {
-            return Err(Refusal::ReadsPastOwn(k));
+        if self.item_writers[r.item()].has(t) && !writers.has(t) {
+            return Err(Refusal::ReadsPastOwn(r.place()));
         }
         Ok(())
     }
 
-    // Keeps record k.
-    pub fn keep(&mut self, log: &[u8], k: usize)
-        requires within { Within log.now k }
-        requires kept { KeptBefore log.now k self.old }
-        ensures { KeptBefore log.now (k + 1) self.new }
+    // Keeps a record.
+    pub fn keep(&mut self, r: &Record<'_>)
+        requires kept { KeptBefore r.now.log r.now.place self.old }
+        ensures { KeptBefore r.now.log (r.now.place + 1) self.new }
     {
-        let t = transaction_at(log, k);
+        let t = r.transaction();
         if !self.named.has(t) {
             self.named = self.named.with(t);
-            self.firsts[t] = k;
+            self.firsts[t] = r.place();
         }
-        if has_kind(log, k, Kind::Write) {
-            let c = copy_at(log, k);
+        if r.is(Kind::Write) {
+            let c = r.copy();
             self.copy_writers[c] = self.copy_writers[c].with(t);
-            let x = item_at(log, k);
+            let x = r.item();
             self.item_writers[x] = self.item_writers[x].with(t);
         }
-        if has_kind(log, k, Kind::Commit) {
+        if r.is(Kind::Commit) {
             self.committed = self.committed.with(t);
         }
     }

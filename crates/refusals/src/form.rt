@@ -7,7 +7,7 @@ ghost use Rattle.refusals.specs.Numbers.{checked_says};
 
 use crate::refusal::Refusal;
 use format::kind::Kind;
-use format::record::{Copy, LAST_TRANSACTION, Record};
+use format::record::{Copy, LAST_TRANSACTION, RecordBytes};
 
 // Number 5 for the transaction, which every kind of record names from the same range.
 fn transaction_form(k: usize, transaction: u8) -> Result<(), Refusal>
@@ -20,16 +20,16 @@ fn transaction_form(k: usize, transaction: u8) -> Result<(), Refusal>
 }
 
 // Numbers 4 and 5 for the record at place k. A read or a write names any copy, a commit item 0 and site 0.
-pub fn form_answer(k: usize, record: Record) -> Result<(), Refusal>
-    ensures { checked_says result ≡ answer_of (form_rows k record.kind record.transaction record.item record.site) }
+pub fn form_answer(k: usize, bytes: RecordBytes) -> Result<(), Refusal>
+    ensures { checked_says result ≡ answer_of (form_rows k bytes.kind bytes.transaction bytes.item bytes.site) }
 {
-    match record.kind {
-        Kind::READ | Kind::WRITE => match (record.item, record.site) {
-            (0..=Copy::LAST_ITEM, 0..=Copy::LAST_SITE) => transaction_form(k, record.transaction),
+    match bytes.kind {
+        Kind::READ | Kind::WRITE => match (bytes.item, bytes.site) {
+            (0..=Copy::LAST_ITEM, 0..=Copy::LAST_SITE) => transaction_form(k, bytes.transaction),
             _ => Err(Refusal::OutOfRange(k)),
         },
-        Kind::COMMIT => match (record.item, record.site) {
-            (0, 0) => transaction_form(k, record.transaction),
+        Kind::COMMIT => match (bytes.item, bytes.site) {
+            (0, 0) => transaction_form(k, bytes.transaction),
             _ => Err(Refusal::OutOfRange(k)),
         },
         _ => Err(Refusal::BadKind(k)),

@@ -8,27 +8,27 @@ use format::record::{Record, TRANSACTIONS};
 use sets::Set;
 
 // The transaction of a record joins the set at c, where the record counts.
-pub fn add_own(record: &Record<'_>, c: usize, counts: bool, table: &mut [Set])
+pub fn add_own(r: &Record<'_>, c: usize, counts: bool, table: &mut [Set])
     requires row_there { c < length table.old }
-    ensures { AddedOwn record.now.log record.now.place c counts table.old table.new }
+    ensures { AddedOwn r.now.log r.now.place c counts table.old table.new }
 {
-    let own = Set::EMPTY.with(record.transaction());
+    let own = Set::EMPTY.with(r.transaction());
     table[c] = table[c].union(own.only_if(counts));
 }
 
 // The transaction of a write joins the set at c.
-pub fn add_writer(record: &Record<'_>, c: usize, table: &mut [Set])
+pub fn add_writer(r: &Record<'_>, c: usize, table: &mut [Set])
     requires row_there { c < length table.old }
-    ensures { AddedWriter record.now.log record.now.place c table.old table.new }
+    ensures { AddedWriter r.now.log r.now.place c table.old table.new }
 {
-    add_own(record, c, record.is(Kind::Write), table);
+    add_own(r, c, r.is(Kind::Write), table);
 }
 
 // The set joins the row of the record's transaction.
-pub fn add_to_row(record: &Record<'_>, to: Set, table: &mut [Set; TRANSACTIONS])
+pub fn add_to_row(r: &Record<'_>, to: Set, table: &mut [Set; TRANSACTIONS])
     requires whole { length table.old ≡ transactions }
-    ensures { AddedToRow record.now.log record.now.place to table.old table.new }
+    ensures { AddedToRow r.now.log r.now.place to table.old table.new }
 {
-    let i = record.transaction();
+    let i = r.transaction();
     table[i] = table[i].union(to);
 }

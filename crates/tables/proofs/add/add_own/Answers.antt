@@ -22,8 +22,8 @@ turned_round false false false = refl
 
 pub returns : goal.returns
 returns c =
-    let log = c.args.record.now.log in
-    let k = c.args.record.now.place in
+    let log = c.args.r.now.log in
+    let k = c.args.r.now.place in
     let old = c.args.table.now in
     let at = c.args.c in
     let counts = c.args.counts in

@@ -10,8 +10,8 @@ use Rattle.tables.proofs.add.add_to_row.Goals as goal
 
 pub returns : goal.returns
 returns c =
-    let log = c.args.record.now.log in
-    let k = c.args.record.now.place in
+    let log = c.args.r.now.log in
+    let k = c.args.r.now.place in
     let old = c.args.table.now in
     let to = c.args.to in
     let t = c.transaction-i in
