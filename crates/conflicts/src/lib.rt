@@ -5,12 +5,12 @@ ghost use Rattle.std.specs.Prelude.{◌≡◌, ℕ, ◌+◌, List};
 ghost use Rattle.sets.specs.Bits.{has, Holds};
 ghost use Rattle.histories.specs.Reasons.{gives_conflict, conflict};
 ghost use Rattle.rules.specs.LogHistory.{history_of};
-ghost use Rattle.rules.specs.Record.{Within, records, transactions};
+ghost use Rattle.rules.specs.Record.{records, transactions};
 ghost use Rattle.rules.specs.Passes.{InLimits};
 ghost use Rattle.conflicts.specs.Kept.{KeptFrom};
 
 use format::kind::Kind;
-use format::record::{Copy, TRANSACTIONS, copy_at, has_kind, record_count};
+use format::record::{Copy, Record, TRANSACTIONS, record_count};
 use sets::Set;
 use tables::add::{add_own, add_to_row, add_writer};
 
@@ -32,29 +32,27 @@ impl Later {
         }
     }
 
-    // The transactions with a later record that conflicts with record k: of a read the later writers of its copy, of a write all that
+    // The transactions with a later record that conflicts with this record: of a read the later writers of its copy, of a write all that
     // use it later.
-    fn conflicting(&self, log: &[u8], k: usize) -> Set
-        requires within { Within log.now k }
-        requires kept { KeptFrom log.now (k + 1) self.now }
-        ensures { (j : ℕ) → has result j ≡ gives_conflict (history_of log.now) k j }
+    fn conflicting(&self, r: &Record<'_>) -> Set
+        requires { KeptFrom r.now.log (r.now.place + 1) self.now }
+        ensures { (j : ℕ) → has result j ≡ gives_conflict (history_of r.now.log) r.now.place j }
     {
-        let c = copy_at(log, k);
-        let after_read = self.writers[c].only_if(has_kind(log, k, Kind::Read));
-        let after_write = self.users[c].only_if(has_kind(log, k, Kind::Write));
+        let c = r.copy();
+        let after_read = self.writers[c].only_if(r.is(Kind::Read));
+        let after_write = self.users[c].only_if(r.is(Kind::Write));
         after_read.union(after_write)
     }
 
-    // Keeps record k: the transaction of a read or a write is a user of its copy, that of a write a writer too.
-    fn keep(&mut self, log: &[u8], k: usize)
-        requires within { Within log.now k }
-        requires kept { KeptFrom log.now (k + 1) self.old }
-        ensures { KeptFrom log.now k self.new }
+    // Keeps a record: the transaction of a read or a write is a user of its copy, that of a write a writer too.
+    fn keep(&mut self, r: &Record<'_>)
+        requires { KeptFrom r.now.log (r.now.place + 1) self.old }
+        ensures { KeptFrom r.now.log r.now.place self.new }
     {
-        let c = copy_at(log, k);
-        add_own(log, k, c, has_kind(log, k, Kind::Read), &mut self.users);
-        add_own(log, k, c, has_kind(log, k, Kind::Write), &mut self.users);
-        add_writer(log, k, c, &mut self.writers);
+        let c = r.copy();
+        add_own(r, c, r.is(Kind::Read), &mut self.users);
+        add_own(r, c, r.is(Kind::Write), &mut self.users);
+        add_writer(r, c, &mut self.writers);
     }
 }
 
@@ -68,9 +66,10 @@ pub fn conflicts(log: &[u8]) -> [Set; TRANSACTIONS]
     let mut later = Later::new();
     for k in (0..record_count(log)).rev() {
         // The row is stored last: what was read of the two tables is then still at hand when they are stored.
-        let conflicting = later.conflicting(log, k);
-        later.keep(log, k);
-        add_to_row(log, k, conflicting, &mut table);
+        let r = Record::at(log, k);
+        let conflicting = later.conflicting(&r);
+        later.keep(&r);
+        add_to_row(&r, conflicting, &mut table);
     }
     table
 }

@@ -107,7 +107,7 @@ impl<'a> Model for Record<'a> {
 impl<'a> Record<'a> {
     pub fn at(log: &'a [u8], k: usize) -> Record<'a>
         requires { Within log.now k }
-        ensures { (result.log ≡ log.now) × (result.place ≡ k) }
+        ensures { result ≡ record { log = log.now; place = k } }
     {
         Record { log, place: k }
     }
@@ -128,20 +128,26 @@ impl<'a> Record<'a> {
     }
 
     pub fn transaction(&self) -> usize
-        ensures { (result ≡ transaction self.now.log self.now.place) × (result < transactions) }
+        ensures value { result ≡ transaction self.now.log self.now.place }
+        ensures below { result < transactions }
+        ensures within { Within self.now.log self.now.place }
     {
         usize::from(bytes_at(self.log, self.place).transaction)
     }
 
     pub fn item(&self) -> usize
-        ensures { (result ≡ item self.now.log self.now.place) × (result < items) }
+        ensures value { result ≡ item self.now.log self.now.place }
+        ensures below { result < items }
+        ensures within { Within self.now.log self.now.place }
     {
         usize::from(bytes_at(self.log, self.place).item)
     }
 
     // The number of its copy.
     pub fn copy(&self) -> usize
-        ensures { (result ≡ copy_of self.now.log self.now.place) × (result < items * sites) }
+        ensures value { result ≡ copy_of self.now.log self.now.place }
+        ensures below { result < items * sites }
+        ensures within { Within self.now.log self.now.place }
     {
         let bytes = bytes_at(self.log, self.place);
         Copy::new(bytes.item, bytes.site).number()

@@ -21,8 +21,8 @@ loop-k-preserved c =
     record {
       rows = rows_add log (gives_conflict (history_of log)) (l.k - 1) (omega arith)
           (back_one (λ x. LaterRows log (gives_conflict (history_of log)) x l.table) l.k c.loop-k-test.true l.invariant.rows)
-          c.conflicting-conflicting.result c.conflicting-conflicting.ensures c.add_to_row.ensures;
-      kept = c.keep.ensures;
+          c.conflicting-conflicting.result (rw c.at-r.ensures at c.conflicting-conflicting.ensures) (rw c.at-r.ensures at c.add_to_row.ensures);
+      kept = rw c.at-r.ensures at c.keep.ensures;
     }
 
 pub returns : goal.returns

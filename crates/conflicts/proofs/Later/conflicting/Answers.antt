@@ -12,19 +12,19 @@ use Rattle.conflicts.proofs.Later.conflicting.Goals as goal
 
 pub returns : goal.returns
 returns c j =
-    let log = c.args.log.now in
-    let k = c.args.k in
+    let log = c.args.r.now.log in
+    let k = c.args.r.now.place in
     let later = c.args.self.now in
-    let kept = c.requires.kept in
-    let copy = c.copy_at-c in
+    let kept = c.requires in
+    let copy = c.copy-c in
     c.union.ensures j
     ∙ ap₂ (λ (a b : Bool). a || b)
     (c.only_if-after_read.ensures j
-    ∙ ap₂ (λ (a b : Bool). a && b) c.has_kind.ensures (row_read later.writers copy.result c.index-self-c.result refl (rw kept.writers.whole copy.ensures.1) j))
+    ∙ ap₂ (λ (a b : Bool). a && b) c.is.ensures (row_read later.writers copy.result c.index-self-c.result refl (rw kept.writers.whole copy.ensures.below) j))
     (c.only_if-after_write.ensures j
-    ∙ ap₂ (λ (a b : Bool). a && b) c.has_kind-2.ensures (row_read later.users copy.result c.index-self-c-2.result refl (rw kept.users.whole copy.ensures.1) j))
+    ∙ ap₂ (λ (a b : Bool). a && b) c.is-2.ensures (row_read later.users copy.result c.index-self-c-2.result refl (rw kept.users.whole copy.ensures.below) j))
     ∙ conflicts_by_kind (history_of log) k (read_no_write log k) j (in_row later.writers copy.result j) (in_row later.users copy.result j)
     (kept.writers.said copy.result j
-    ∙ ap (λ (x : ℕ). some_from (k + 1) (records log) (λ f. is_by (history_of log) f j && writes_copy (history_of log) f x)) copy.ensures.0)
+    ∙ ap (λ (x : ℕ). some_from (k + 1) (records log) (λ f. is_by (history_of log) f j && writes_copy (history_of log) f x)) copy.ensures.value)
     (kept.users.said copy.result j
-    ∙ ap (λ (x : ℕ). some_from (k + 1) (records log) (λ f. is_by (history_of log) f j && uses_copy (history_of log) f x)) copy.ensures.0)
+    ∙ ap (λ (x : ℕ). some_from (k + 1) (records log) (λ f. is_by (history_of log) f j && uses_copy (history_of log) f x)) copy.ensures.value)

@@ -10,18 +10,18 @@ use Rattle.conflicts.proofs.Later.keep.Goals as goal
 
 pub returns : goal.returns
 returns c =
-    let log = c.args.log.now in
-    let k = c.args.k in
-    let kept = c.requires.kept in
-    let there = c.requires.within.there in
-    let copy = c.copy_at-c in
+    let log = c.args.r.now.log in
+    let k = c.args.r.now.place in
+    let kept = c.requires in
+    let copy = c.copy-c in
+    let there = copy.ensures.within.there in
     record {
-      users = either_adds log (uses_copy (history_of log)) (items * sites) k there kept.users copy.result c.has_kind.result c.has_kind-2.result
+      users = either_adds log (uses_copy (history_of log)) (items * sites) k there kept.users copy.result c.is.result c.is-2.result
           (λ d.
           uses_by_kind (history_of log) k d
-          ∙ ap₂ (λ (a b : Bool). (a || b) && eqb (copy_of log k) d) (sym c.has_kind.ensures) (sym c.has_kind-2.ensures)
-          ∙ ap (λ (x : ℕ). (c.has_kind.result || c.has_kind-2.result) && eqb x d) (sym copy.ensures.0))
+          ∙ ap₂ (λ (a b : Bool). (a || b) && eqb (copy_of log k) d) (sym c.is.ensures) (sym c.is-2.ensures)
+          ∙ ap (λ (x : ℕ). (c.is.result || c.is-2.result) && eqb x d) (sym copy.ensures.value))
           c.add_own.ensures c.add_own-2.ensures;
       writers = writers_add log (writes_copy (history_of log)) (items * sites) k there kept.writers copy.result
-          (λ d. writes_copy_of (history_of log) k d copy.ensures.0) c.add_writer.ensures;
+          (λ d. writes_copy_of (history_of log) k d copy.ensures.value) c.add_writer.ensures;
     }

@@ -19,7 +19,7 @@ names_kept c =
             copies = old.copies;
             items = old.items;
             names = names_add log c.args.r.now.place c.args.self.now.named c.args.self.now.firsts old.names c.transaction-t.result w.with-self.result
-                c.transaction-t.ensures.0 c.transaction-t.ensures.1 (sym w.if-not-has.ensures) w.with-self.ensures;
+                c.transaction-t.ensures.value c.transaction-t.ensures.below (sym w.if-not-has.ensures) w.with-self.ensures;
             commits = old.commits;
           })
       | else-not-has w ↦
@@ -28,7 +28,7 @@ names_kept c =
             copies = old.copies;
             items = old.items;
             names = names_stay log c.args.r.now.place c.args.self.now.named c.args.self.now.firsts old.names c.transaction-t.result
-                c.transaction-t.ensures.0 (sym w.if-not-has.ensures);
+                c.transaction-t.ensures.value (sym w.if-not-has.ensures);
             commits = old.commits;
           })
     ]
@@ -39,17 +39,17 @@ writes_kept c old =
     let log = c.args.r.now.log in
     let k = c.args.r.now.place in
     let t = c.transaction-t.result in
-    let own = c.transaction-t.ensures.0 in
+    let own = c.transaction-t.ensures.value in
     elim c.if-is.branch [
       | then-is w ↦
           rw w.self-is
           (record {
             copies = writers_add log (writes_copy (history_of log)) (items * sites) k c.if-not-has.self.copy_writers old.copies w.copy-c.result t w.with.result
-                w.index-self-c.result w.copy-c.ensures.1
-                (λ x. copy_writes (history_of log) k (sym w.if-is.ensures) x ∙ ap (λ (y : ℕ). eqb y x) (sym w.copy-c.ensures.0)) own w.with.ensures;
+                w.index-self-c.result w.copy-c.ensures.below
+                (λ x. copy_writes (history_of log) k (sym w.if-is.ensures) x ∙ ap (λ (y : ℕ). eqb y x) (sym w.copy-c.ensures.value)) own w.with.ensures;
             items = writers_add log (writes_item (history_of log)) items k c.if-not-has.self.item_writers old.items w.item-x.result t w.with-then-is.result
-                w.index-self-x.result w.item-x.ensures.1
-                (λ x. item_writes (history_of log) k (sym w.if-is.ensures) x ∙ ap (λ (y : ℕ). eqb y x) (sym w.item-x.ensures.0)) own w.with-then-is.ensures;
+                w.index-self-x.result w.item-x.ensures.below
+                (λ x. item_writes (history_of log) k (sym w.if-is.ensures) x ∙ ap (λ (y : ℕ). eqb y x) (sym w.item-x.ensures.value)) own w.with-then-is.ensures;
             names = old.names;
             commits = old.commits;
           })
@@ -73,7 +73,7 @@ returns-then-is-2 c =
       items = old.items;
       names = old.names;
       commits = commits_add c.args.r.now.log c.args.r.now.place c.if-is.self.committed old.commits c.transaction-t.result c.with-self-then-is-2.result
-          (sym c.if-is-2.ensures) c.transaction-t.ensures.0 c.with-self-then-is-2.ensures;
+          (sym c.if-is-2.ensures) c.transaction-t.ensures.value c.with-self-then-is-2.ensures;
     }
 
 pub returns-else-is-2 : goal.returns-else-is-2

@@ -7,25 +7,25 @@ use Rattle.kept.proofs.Kept.read_answer.Goals.{else-has-via-then-has+else-not-ha
 pub returns-then-eq : goal.returns-then-eq
 returns-then-eq c =
     rw c.place.ensures.place
-    (sym (refuses_7 c.args.r.now.log c.args.r.now.place c.args.self.now c.requires.kept c.requires.reads c.copy.result c.index-self-copy.result c.copy.ensures
+    (sym (refuses_7 c.args.r.now.log c.args.r.now.place c.args.self.now c.requires.kept c.requires.reads c.copy.result c.index-self-copy.result (c.copy.ensures.value, c.copy.ensures.below)
     (sym c.if-eq.ensures)))
 
 pub returns-then-not-has : goal.returns-then-not-has
 returns-then-not-has c =
     rw c.place-then-not-has.ensures.place
-    (sym (refuses_8 c.args.r.now.log c.args.r.now.place c.args.self.now c.requires.kept c.requires.reads c.copy.result c.index-self-copy.result c.copy.ensures
-    (sym c.if-eq.ensures) c.item.result c.index-self-item.result c.transaction-t.result c.item.ensures c.transaction-t.ensures.0
+    (sym (refuses_8 c.args.r.now.log c.args.r.now.place c.args.self.now c.requires.kept c.requires.reads c.copy.result c.index-self-copy.result (c.copy.ensures.value, c.copy.ensures.below)
+    (sym c.if-eq.ensures) c.item.result c.index-self-item.result c.transaction-t.result (c.item.ensures.value, c.item.ensures.below) c.transaction-t.ensures.value
     (sym c.if-has.ensures) (sym c.if-not-has.ensures)))
 
 pub returns : goal.returns
 returns c =
     elim c.else-has.branch [
       | else-has-via-then-has+else-not-has w ↦
-          sym (passes_own c.args.r.now.log c.args.r.now.place c.args.self.now c.requires.kept c.requires.reads c.copy.result c.index-self-copy.result c.copy.ensures
-          (sym c.if-eq.ensures) c.item.result c.index-self-item.result c.transaction-t.result c.item.ensures c.transaction-t.ensures.0
+          sym (passes_own c.args.r.now.log c.args.r.now.place c.args.self.now c.requires.kept c.requires.reads c.copy.result c.index-self-copy.result (c.copy.ensures.value, c.copy.ensures.below)
+          (sym c.if-eq.ensures) c.item.result c.index-self-item.result c.transaction-t.result (c.item.ensures.value, c.item.ensures.below) c.transaction-t.ensures.value
           (sym w.if-not-has.ensures))
       | else-has-via-else-has w ↦
-          sym (passes_others c.args.r.now.log c.args.r.now.place c.args.self.now c.requires.kept c.requires.reads c.copy.result c.index-self-copy.result c.copy.ensures
-          (sym c.if-eq.ensures) c.item.result c.index-self-item.result c.transaction-t.result c.item.ensures c.transaction-t.ensures.0
+          sym (passes_others c.args.r.now.log c.args.r.now.place c.args.self.now c.requires.kept c.requires.reads c.copy.result c.index-self-copy.result (c.copy.ensures.value, c.copy.ensures.below)
+          (sym c.if-eq.ensures) c.item.result c.index-self-item.result c.transaction-t.result (c.item.ensures.value, c.item.ensures.below) c.transaction-t.ensures.value
           (sym w.if-has.ensures))
     ]

@@ -32,7 +32,7 @@ returns c =
     λ j.
     c.with-own.ensures j
     ∙ ap (λ (b : Bool). b || eqb t.result j) (has_zero j)
-    ∙ ap (λ (x : ℕ). eqb x j) t.ensures.0
+    ∙ ap (λ (x : ℕ). eqb x j) t.ensures.value
     ∙ sym (by_is (history_of log) k j) in
     let joined : (j : ℕ) → has c.only_if.result j ≡ (counts && is_by (history_of log) k j) =
     λ j. c.only_if.ensures j ∙ ap (λ (b : Bool). counts && b) (own j) in

@@ -15,8 +15,8 @@ returns c =
     let old = c.args.table.now in
     let to = c.args.to in
     let t = c.transaction-i in
-    let own : (i : ℕ) → is_by (history_of log) k i ≡ eqb t.result i = λ i. by_is (history_of log) k i ∙ ap (λ (x : ℕ). eqb x i) (sym t.ensures.0) in
-    let there : t.result < length old = rw c.requires.whole t.ensures.1 in
+    let own : (i : ℕ) → is_by (history_of log) k i ≡ eqb t.result i = λ i. by_is (history_of log) k i ∙ ap (λ (x : ℕ). eqb x i) (sym t.ensures.value) in
+    let there : t.result < length old = rw c.requires.whole t.ensures.below in
     added_store (λ i j. is_by (history_of log) k i && has to j) old t.result c.union.result (has to) there
     (λ j. c.union.ensures j ∙ ap (λ (b : Bool). b || has to j) (row_read old t.result _ refl there j))
     (λ i j. ap (λ (b : Bool). b && has to j) (own i))

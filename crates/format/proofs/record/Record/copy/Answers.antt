@@ -3,11 +3,9 @@ use Rattle.std.proofs.Common.{ap₂, ◌∙◌}
 use Rattle.rules.specs.Record.{copy_number, copy_of}
 use Rattle.format.proofs.record.Record.copy.Goals as goal
 
-pub returns : goal.returns
+pub returns-clause-value : goal.returns-clause-value
 unfolding copy_of
-returns c =
+returns-clause-value c =
     let e = c in
-    rw (← c.self.view_is) (
-      c.number.ensures.0 ∙ ap₂ copy_number (c.new.ensures.0 ∙ e.bytes_at-bytes.ensures.2) (c.new.ensures.1 ∙ e.bytes_at-bytes.ensures.3),
-      c.number.ensures.1,
-    )
+    rw (← c.self.view_is)
+    (c.number.ensures.0 ∙ ap₂ copy_number (c.new.ensures.0 ∙ e.bytes_at-bytes.ensures.2) (c.new.ensures.1 ∙ e.bytes_at-bytes.ensures.3))
