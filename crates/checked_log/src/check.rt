@@ -7,7 +7,7 @@ ghost use Rattle.refusals.specs.Numbers.{checked_says};
 ghost use Rattle.checked_log.specs.Promises.{ChecksLength, ChecksContent, ChecksLog};
 ghost use Rattle.kept.specs.Kept.{KeptBefore};
 
-use format::record::{MOST_BYTES, RECORD_BYTES, record_at, record_count};
+use format::record::{MOST_BYTES, RECORD_BYTES, Record, bytes_at, record_count};
 use kept::Kept;
 use refusals::form::form_answer;
 use refusals::refusal::Refusal;
@@ -18,8 +18,8 @@ fn record_answer(log: &[u8], k: usize, kept: &Kept) -> Result<(), Refusal>
     requires kept { KeptBefore log.now k kept.now }
     ensures { checked_says result ≡ answer_of (record_rows log.now k) }
 {
-    form_answer(k, record_at(log, k))?;
-    kept.history_answer(log, k)
+    form_answer(k, bytes_at(log, k))?;
+    kept.history_answer(&Record::at(log, k))
 }
 
 // Numbers 1 and 2, which look at the length alone.
@@ -43,7 +43,7 @@ pub fn content_answer(log: &[u8]) -> Result<(), Refusal>
     let mut kept = Kept::new();
     for k in 0..record_count(log) {
         record_answer(log, k, &kept)?;
-        kept.keep(log, k);
+        kept.keep(&Record::at(log, k));
     }
     kept.end_answer()
 }

@@ -1,14 +1,14 @@
 // The source of a read, and the question "source of record k".
 ghost use Rattle.std.specs.Prelude.{◌≡◌, ◌<◌};
-ghost use Rattle.histories.specs.Source.{shows};
+ghost use Rattle.histories.specs.History.{writes_copy};
 ghost use Rattle.rules.specs.LogHistory.{history_of};
-ghost use Rattle.rules.specs.Record.{Within, records};
+ghost use Rattle.rules.specs.Record.{records};
 ghost use Rattle.rules.specs.Passes.{InLimits};
 ghost use Rattle.checked_log.specs.Promises.{FindsSource, TellsSource};
 
 use crate::check::check;
 use format::kind::Kind;
-use format::record::{copy_at, has_kind, record_at, record_count};
+use format::record::{Record, bytes_at, record_count};
 use refusals::refusal::Refusal;
 
 // The source of a read: the transaction, and the place of its write record.
@@ -18,13 +18,11 @@ pub struct Source {
     pub place: usize,
 }
 
-// Whether record e is a write of the copy that record k names. Few name it, so that is asked first.
-fn writes_copy_of(log: &[u8], e: usize, k: usize) -> bool
-    requires within_e { Within log.now e }
-    requires within_k { Within log.now k }
-    ensures { result ≡ shows (history_of log.now) k e }
+// Whether a record is a write of this copy. Few are on it, so that is asked first.
+fn writes_copy(r: &Record<'_>, copy: usize) -> bool
+    ensures { result ≡ writes_copy (history_of r.now.log) r.now.place copy }
 {
-    copy_at(log, e) == copy_at(log, k) && has_kind(log, e, Kind::Write)
+    r.copy() == copy && r.is(Kind::Write)
 }
 
 // In a log within the limits, the last write of record k's copy before it; none where k is no read, or where no earlier record
@@ -34,10 +32,12 @@ pub fn source_record(log: &[u8], k: usize) -> Option<usize>
     requires there { k < records log.now }
     ensures { FindsSource log.now k result }
 {
-    if !has_kind(log, k, Kind::Read) {
+    let r = Record::at(log, k);
+    if !r.is(Kind::Read) {
         return None;
     }
-    (0..k).rev().find(|&e| writes_copy_of(log, e, k))
+    let copy = r.copy();
+    (0..k).rev().find(|&e| writes_copy(&Record::at(log, e), copy))
 }
 
 // The write that record k reads, by its transaction and its place; none for a write or a commit. Any bytes and any number may be asked:
@@ -51,7 +51,7 @@ pub fn source_of_record(log: &[u8], k: usize) -> Result<Option<Source>, Refusal>
     }
     match source_record(log, k) {
         Some(e) => Ok(Some(Source {
-            transaction: record_at(log, e).transaction,
+            transaction: bytes_at(log, e).transaction,
             place: e,
         })),
         None => Ok(None),

@@ -22,15 +22,15 @@ returns-in_err-record_answer c =
     (sym (content_refused c.args.log.now c.loop-k.k _ _ (there (goal.at.returns-in_err-record_answer c).In-loop-k) c.loop-k.invariant.passes
     (sym c.in_err-record_answer.ensures)))
 
-pub keep-requires-clause-within : goal.keep-requires-clause-within
-keep-requires-clause-within c =
-    within_passed c.args.log.now c.loop-k.k (there (goal.at.keep-requires-clause-within c).In-loop-k) (sym c.in_ok-record_answer.ensures)
+pub at-requires : goal.at-requires
+at-requires c =
+    within_passed c.args.log.now c.loop-k.k (there (goal.at.at-requires c).In-loop-k) (sym c.in_ok-record_answer.ensures)
 
 pub loop-k-preserved : goal.loop-k-preserved
 loop-k-preserved c =
     record {
       passes = over_step (record_rows c.args.log.now) c.loop-k.k c.loop-k.invariant.passes (sym c.in_ok-record_answer.ensures);
-      kept = c.keep.ensures;
+      kept = rw c.at.ensures at c.keep.ensures;
     }
 
 -- after the last turn k is the number of records

@@ -38,15 +38,15 @@ answered c o e =
     ap (λ (x : Option ℕ). gives (map (write_record (history_of c.args.log.now)) x)) e
     ∙ sym (asked c.args.log.now c.args.k (sym c.in_ok-check.ensures) (there c))
 
-pub record_at-requires : goal.record_at-requires
-record_at-requires c =
+pub bytes_at-requires : goal.bytes_at-requires
+bytes_at-requires c =
     let s = sourced (history_of c.args.log.now) c.args.k c.in-Some.e (sym c.in-Some.ensures) in
-    omega (arith, s.earlier, there (goal.at.record_at-requires c).Else-record_count-k)
+    omega (arith, s.earlier, there (goal.at.bytes_at-requires c).Else-record_count-k)
 
 pub returns-in-Some : goal.returns-in-Some
 unfolding write_record
 returns-in-Some c =
-    ap (λ (t : ℕ). gives (some (record { transaction = t; place = c.in-Some.e }))) c.record_at.ensures.1
+    ap (λ (t : ℕ). gives (some (record { transaction = t; place = c.in-Some.e }))) c.bytes_at.ensures.1
     ∙ answered (goal.at.returns-in-Some c).Else-record_count-k (some c.in-Some.e) c.in-Some.ensures
 
 pub returns-in-None : goal.returns-in-None
