@@ -3,12 +3,12 @@ ghost use Rattle.std.specs.Prelude.{◌≡◌, ℕ, ◌+◌, ◌<◌, List};
 ghost use Rattle.sets.specs.Bits.{has};
 ghost use Rattle.histories.specs.Order.{writer_after};
 ghost use Rattle.rules.specs.LogHistory.{in_log, history_of};
-ghost use Rattle.rules.specs.Record.{Within, records, transactions, item};
+ghost use Rattle.rules.specs.Record.{records, transactions, item};
 ghost use Rattle.rules.specs.Passes.{Passes};
 ghost use Rattle.orders.specs.Kept.{KeptFrom, KeptOrder};
 
 use format::kind::Kind;
-use format::record::{Copy, TRANSACTIONS, has_kind, item_at, record_count, transaction_at};
+use format::record::{Copy, Record, TRANSACTIONS, record_count};
 use sets::Set;
 use tables::add::{add_to_row, add_writer};
 
@@ -30,7 +30,7 @@ impl WriteOrder {
         let mut order = WriteOrder::new();
         let mut committed = Set::EMPTY;
         for k in (0..record_count(log)).rev() {
-            committed = order.keep(log, k, committed);
+            committed = order.keep(&Record::at(log, k), committed);
         }
         (order, committed)
     }
@@ -45,28 +45,26 @@ impl WriteOrder {
         }
     }
 
-    // Keeps record k. All that commit later come after the transaction of a commit, and for the records before it, this one commits
+    // Keeps a record. All that commit later come after the transaction of a commit, and for the records before it, this one commits
     // later too.
-    fn keep(&mut self, log: &[u8], k: usize, later: Set) -> Set
-        requires within { Within log.now k }
-        requires kept { KeptFrom log.now (k + 1) self.old later }
-        ensures { KeptFrom log.now k self.new result }
+    fn keep(&mut self, r: &Record<'_>, later: Set) -> Set
+        requires { KeptFrom r.now.log (r.now.place + 1) self.old later }
+        ensures { KeptFrom r.now.log r.now.place self.new result }
     {
-        add_writer(log, k, item_at(log, k), &mut self.writers);
-        if has_kind(log, k, Kind::Commit) {
-            add_to_row(log, k, later, &mut self.after);
-            return later.with(transaction_at(log, k));
+        add_writer(r, r.item(), &mut self.writers);
+        if r.is(Kind::Commit) {
+            add_to_row(r, later, &mut self.after);
+            return later.with(r.transaction());
         }
         later
     }
 
-    // The writers of record k's item that come after s in its write order.
-    pub(crate) fn writers_after(&self, log: &[u8], k: usize, s: usize) -> Set
-        requires within { Within log.now k }
+    // The writers of the record's item that come after s in its write order.
+    pub(crate) fn writers_after(&self, r: &Record<'_>, s: usize) -> Set
         requires s_in_range { s < transactions }
-        requires kept_order { KeptOrder log.now self.now }
-        ensures { (j : ℕ) → has result j ≡ writer_after (history_of log.now) (item log.now k) s j }
+        requires kept_order { KeptOrder r.now.log self.now }
+        ensures { (j : ℕ) → has result j ≡ writer_after (history_of r.now.log) (item r.now.log r.now.place) s j }
     {
-        self.writers[item_at(log, k)].common(self.after[s])
+        self.writers[r.item()].common(self.after[s])
     }
 }

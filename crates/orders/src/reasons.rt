@@ -1,39 +1,38 @@
 // Reasons 2 and 3, which go by the write order of an item.
-ghost use Rattle.std.specs.Prelude.{◌≡◌, ℕ};
+ghost use Rattle.std.specs.Prelude.{◌≡◌, ◌<◌, ℕ};
 ghost use Rattle.sets.specs.Bits.{has, Holds};
 ghost use Rattle.histories.specs.Reasons.{gives_write_order, gives_read_before, write_order, read_before};
 ghost use Rattle.rules.specs.LogHistory.{history_of};
-ghost use Rattle.rules.specs.Record.{Within, transactions};
+ghost use Rattle.rules.specs.Record.{records, transactions};
 ghost use Rattle.rules.specs.Passes.{InLimits};
 ghost use Rattle.orders.specs.Kept.{KeptOrder};
 
 use crate::order::WriteOrder;
 use checked_log::source::source_record;
 use format::kind::Kind;
-use format::record::{TRANSACTIONS, has_kind, record_count, transaction_at};
+use format::record::{Record, TRANSACTIONS, record_count};
 use sets::Set;
 use tables::add::add_to_row;
 
-// The transactions that record k puts after its own by reason 2.
-fn after_by_order(log: &[u8], k: usize, order: &WriteOrder) -> Set
-    requires within { Within log.now k }
-    requires kept_order { KeptOrder log.now order.now }
-    ensures { (j : ℕ) → has result j ≡ gives_write_order (history_of log.now) k j }
+// The transactions that a record puts after its own by reason 2.
+fn after_by_order(r: &Record<'_>, order: &WriteOrder) -> Set
+    requires { KeptOrder r.now.log order.now }
+    ensures { (j : ℕ) → has result j ≡ gives_write_order (history_of r.now.log) r.now.place j }
 {
     order
-        .writers_after(log, k, transaction_at(log, k))
-        .only_if(has_kind(log, k, Kind::Write))
+        .writers_after(r, r.transaction())
+        .only_if(r.is(Kind::Write))
 }
 
 // The transactions that record k puts after its own by reason 3: those that write its item after its source.
 fn after_by_read(log: &[u8], k: usize, order: &WriteOrder) -> Set
     requires in_limits { InLimits log.now }
-    requires within { Within log.now k }
+    requires there { k < records log.now }
     requires kept_order { KeptOrder log.now order.now }
     ensures { (j : ℕ) → has result j ≡ gives_read_before (history_of log.now) k j }
 {
     match source_record(log, k) {
-        Some(e) => order.writers_after(log, k, transaction_at(log, e)),
+        Some(e) => order.writers_after(&Record::at(log, k), Record::at(log, e).transaction()),
         None => Set::EMPTY,
     }
 }
@@ -49,8 +48,9 @@ pub fn order_edges(log: &[u8], order: &WriteOrder) -> ([Set; TRANSACTIONS], [Set
     let mut by_order = [Set::EMPTY; TRANSACTIONS];
     let mut by_read = [Set::EMPTY; TRANSACTIONS];
     for k in (0..record_count(log)).rev() {
-        add_to_row(log, k, after_by_order(log, k, order), &mut by_order);
-        add_to_row(log, k, after_by_read(log, k, order), &mut by_read);
+        let r = Record::at(log, k);
+        add_to_row(&r, after_by_order(&r, order), &mut by_order);
+        add_to_row(&r, after_by_read(log, k, order), &mut by_read);
     }
     (by_order, by_read)
 }

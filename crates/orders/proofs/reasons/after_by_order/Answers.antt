@@ -9,9 +9,9 @@ use Rattle.orders.proofs.reasons.after_by_order.Goals as goal
 
 pub returns : goal.returns
 returns c j =
-    let log = c.args.log.now in
-    let k = c.args.k in
+    let log = c.args.r.now.log in
+    let k = c.args.r.now.place in
     c.only_if.ensures j
-    ∙ ap₂ (λ (a b : Bool). a && b) c.has_kind.ensures
-    (c.writers_after.ensures j ∙ ap (λ (t : ℕ). writer_after (history_of log) (item log k) t j) c.transaction_at.ensures.0)
+    ∙ ap₂ (λ (a b : Bool). a && b) c.is.ensures
+    (c.writers_after.ensures j ∙ ap (λ (t : ℕ). writer_after (history_of log) (item log k) t j) c.transaction.ensures.value)
     ∙ sym (order_given (history_of log) k j)

@@ -26,10 +26,10 @@ loop-k-preserved c =
     record {
       order_rows = rows_add log by_order (l.k - 1) (omega arith)
           (back_one (λ x. LaterRows log by_order x l.by_order) l.k c.loop-k-test.true l.invariant.order_rows)
-          c.after_by_order.result c.after_by_order.ensures c.add_to_row.ensures;
+          c.after_by_order.result (rw c.at-r.ensures at c.after_by_order.ensures) (rw c.at-r.ensures at c.add_to_row.ensures);
       read_rows = rows_add log by_read (l.k - 1) (omega arith)
           (back_one (λ x. LaterRows log by_read x l.by_read) l.k c.loop-k-test.true l.invariant.read_rows)
-          c.after_by_read.result c.after_by_read.ensures c.add_to_row-in-loop-k.ensures;
+          c.after_by_read.result c.after_by_read.ensures (rw c.at-r.ensures at c.add_to_row-in-loop-k.ensures);
     }
 
 pub returns-clause-order_holds : goal.returns-clause-order_holds

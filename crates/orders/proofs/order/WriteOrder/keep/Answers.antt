@@ -12,35 +12,35 @@ use Rattle.orders.proofs.order.WriteOrder.keep.Goals as goal
 use Rattle.orders.proofs.order.WriteOrder.keep.Goals.{After-add_writer}
 
 -- a write is kept first, and the table of writers then stays as it is
-writers_kept : (c : After-add_writer) → LaterItemWriters c.args.log.now c.args.k c.add_writer.new.table
+writers_kept : (c : After-add_writer) → LaterItemWriters c.args.r.now.log c.args.r.now.place c.add_writer.new.table
 writers_kept c =
-    let log = c.args.log.now in
-    let k = c.args.k in
-    writers_add log (writes_item (history_of log)) items k c.requires.within.there c.requires.kept.writers c.item_at.result
-    (λ d. writes_item_of (history_of log) k d c.item_at.ensures.0) c.add_writer.ensures
+    let log = c.args.r.now.log in
+    let k = c.args.r.now.place in
+    writers_add log (writes_item (history_of log)) items k c.item.ensures.within.there c.requires.writers c.item.result
+    (λ d. writes_item_of (history_of log) k d c.item.ensures.value) c.add_writer.ensures
 
-pub returns-then-has_kind : goal.returns-then-has_kind
-returns-then-has_kind c =
-    let log = c.args.log.now in
-    let k = c.args.k in
+pub returns-then-is : goal.returns-then-is
+returns-then-is c =
+    let log = c.args.r.now.log in
+    let k = c.args.r.now.place in
     let later = c.args.later in
-    let there = c.requires.within.there in
-    let kept = c.requires.kept in
-    let commits = sym c.if-has_kind.ensures in
+    let there = c.item.ensures.within.there in
+    let kept = c.requires in
+    let commits = sym c.if-is.ensures in
     record {
-      writers = writers_kept (goal.at.returns-then-has_kind c).After-add_writer;
-      commits = commits_add log k there kept.commits c.transaction_at.result c.with.result commits c.transaction_at.ensures.0 c.with.ensures;
+      writers = writers_kept (goal.at.returns-then-is c).After-add_writer;
+      commits = commits_add log k there kept.commits c.transaction.result c.with.result commits c.transaction.ensures.value c.with.ensures;
       orders = rows_add log (is_earlier_commit log) k there kept.orders later (λ j. earlier_commit_kept log k later j kept.commits commits)
           c.add_to_row.ensures;
     }
 
 pub returns : goal.returns
 returns c =
-    let log = c.args.log.now in
-    let k = c.args.k in
-    let there = c.requires.within.there in
-    let kept = c.requires.kept in
-    let other = sym c.if-has_kind.ensures in
+    let log = c.args.r.now.log in
+    let k = c.args.r.now.place in
+    let there = c.item.ensures.within.there in
+    let kept = c.requires in
+    let other = sym c.if-is.ensures in
     record {
       writers = writers_kept (goal.at.returns c).After-add_writer;
       commits = commits_stay log k there kept.commits other;

@@ -9,15 +9,15 @@ use Rattle.orders.proofs.order.WriteOrder.writers_after.Goals as goal
 
 pub returns : goal.returns
 returns c j =
-    let log = c.args.log.now in
+    let log = c.args.r.now.log in
     let order = c.args.self.now in
     let kept = c.requires.kept_order in
-    let at = c.item_at.result in
-    let x = item log c.args.k in
+    let at = c.item.result in
+    let x = item log c.args.r.now.place in
     c.common.ensures j
     ∙ ap₂ (λ (a b : Bool). a && b)
-    (row_read order.writers at c.index-self-item_at.result refl (rw kept.item_writers.whole c.item_at.ensures.1) j
+    (row_read order.writers at c.index-self-item.result refl (rw kept.item_writers.whole c.item.ensures.below) j
     ∙ kept.item_writers.said at j
-    ∙ ap (writes (history_of log) j) c.item_at.ensures.0)
+    ∙ ap (writes (history_of log) j) c.item.ensures.value)
     (row_read order.after c.args.s c.index-self-s.result refl (rw kept.whole c.requires.s_in_range) j ∙ kept.in_order x c.args.s j)
     ∙ writer_after_plain (history_of log) x c.args.s j
