@@ -1,11 +1,16 @@
 -- What the code's answers about a source say, a refusal in document 01's number and place.
-use Rattle.std.specs.Prelude.{Result, Ok, Err, Some, None, Option as Found}
+use Rattle.std.specs.Prelude.{ℕ, List, Result, Ok, Err, Some, None, Option as Found}
 use Rattle.std.proofs.Math.Option.{Option, none, some}
 use Rattle.histories.specs.Source.{Source}
 use Rattle.rules.specs.Answer.{Answer, gives, refused}
 use Rattle.refusals.specs.Numbers.{number_of, place_of}
 use Rattle.refusals.specs.declared.refusal.Refusal.{Refusal}
 use Rattle.checked_log.specs.declared.source.Source.{Source as Told}
+
+-- what the answer of a check says that hands on a log
+abbrev pub passed_says : Result (List ℕ) Refusal → Answer (List ℕ)
+passed_says (Ok log) = gives log
+passed_says (Err r) = refused (number_of r) (place_of r)
 
 -- the two numbers that are told
 abbrev pub told_source : Told → Source

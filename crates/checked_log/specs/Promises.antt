@@ -5,10 +5,11 @@ use Rattle.sets.specs.Search.{found_says}
 use Rattle.refusals.specs.Numbers.{checked_says}
 use Rattle.refusals.specs.declared.refusal.Refusal.{Refusal}
 use Rattle.histories.specs.Source.{source_record}
+use Rattle.rules.specs.Answer.{gives, ◌then◌}
 use Rattle.rules.specs.LogHistory.{history_of}
 use Rattle.rules.specs.Questions.{source_answer}
 use Rattle.rules.specs.Refusals.{length_answer, content_answer, check_answer}
-use Rattle.checked_log.specs.Numbers.{source_says}
+use Rattle.checked_log.specs.Numbers.{passed_says, source_says}
 use Rattle.checked_log.specs.declared.source.Source.{Source}
 
 -- `length_answer`: numbers 1 and 2
@@ -22,6 +23,10 @@ ChecksContent log answer = checked_says answer ≡ content_answer log
 -- `check`: both, in that order
 abbrev pub ChecksLog : List ℕ → Result (Unit {0}) Refusal → Type 0
 ChecksLog log answer = checked_says answer ≡ check_answer log
+
+-- `Passed::check`: the same, and a log that passes is handed on
+abbrev pub ChecksPassed : List ℕ → Result (List ℕ) Refusal → Type 0
+ChecksPassed log answer = passed_says answer ≡ (check_answer log then gives log)
 
 -- `source_record`, of a record k of a log within the limits
 abbrev pub FindsSource : List ℕ → ℕ → Option ℕ → Type 0

@@ -4,9 +4,9 @@ ghost use Rattle.sets.specs.Bits.{has};
 ghost use Rattle.histories.specs.Order.{writer_after};
 ghost use Rattle.rules.specs.LogHistory.{in_log, history_of};
 ghost use Rattle.rules.specs.Record.{records, transactions, item};
-ghost use Rattle.rules.specs.Passes.{Passes};
 ghost use Rattle.orders.specs.Kept.{KeptFrom, KeptOrder};
 
+use checked_log::passed::Passed;
 use format::kind::Kind;
 use format::record::{Copy, Record, TRANSACTIONS, record_count};
 use sets::Set;
@@ -22,11 +22,11 @@ pub struct WriteOrder {
 
 impl WriteOrder {
     // The write orders of a log that passes, read from its end, and beside them the set of its transactions: each of them commits.
-    pub fn of_log(log: &[u8]) -> (WriteOrder, Set)
-        requires passes { Passes log.now }
+    pub fn of_log(log: &Passed<'_>) -> (WriteOrder, Set)
         ensures kept_order { KeptOrder log.now result.0 }
         ensures members { (t : ℕ) → has result.1 t ≡ in_log log.now t }
     {
+        let log = log.bytes();
         let mut order = WriteOrder::new();
         let mut committed = Set::EMPTY;
         for k in (0..record_count(log)).rev() {

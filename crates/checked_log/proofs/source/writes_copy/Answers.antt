@@ -1,5 +1,5 @@
 -- `checked_log::source::writes_copy` meets its contract: a write writes the copy that it names, and no other.
-use Rattle.std.proofs.Common.{Bool, ap, eq-eqb, eqb, ne_eqb, sym, ℕ, ◌&&◌, ◌∙◌, ◌≡◌}
+use Rattle.std.proofs.Common.{Bool, ap, eq-eqb, eqb, ne_eqb, sym, ◌&&◌, ◌∙◌, ◌≡◌}
 use Rattle.sets.proofs.Truth.{and_nothing, and_always}
 use Rattle.histories.specs.History.{writes_copy}
 use Rattle.histories.proofs.OfTransactions.{writes_copy_of}
