@@ -14,7 +14,7 @@ const ROOM: usize = MOST_BYTES + 1;
 
 fn main(rt: HostRuntime) {
     let mut log = cleared::<ROOM>();
-    prove_eq!(log.len(), 16385);
+    prove_eq!(log.len(), 16385); // the longest log has 16384 bytes
     match read_input(&mut rt.stdin(), &mut log) {
         Ok(n) => print_answer(&rt, &log[..n]),
         Err(_) => {
