@@ -27,6 +27,7 @@ struct Stored<'a> {
     rest: &'a [u8],
 }
 
+// Where a read fails, what was read before it is judged.
 fn main(rt: HostRuntime) {
     let mut stack = cleared::<MOST_STACK>();
     let n = read_input(&mut rt.stdin(), &mut stack).unwrap_or_else(|failed| failed.count);
