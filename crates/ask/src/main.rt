@@ -5,31 +5,22 @@
 // too, and part of the answer may have been written. Its exit status is 0 in any case.
 #![tactic(auto)]
 
-ghost use Rattle.std.specs.Prelude.{length, ◌≡◌};
-
 use format::record::MOST_BYTES;
 use printing::put::TEXT;
 use questions::asked::{HEAD, asked_text};
-use reading::read_input;
+use reading::{cleared, read_input};
 
 const ROOM: usize = HEAD + MOST_BYTES + 1;
 
 fn main(rt: HostRuntime) {
-    let mut input = cleared();
-    let read = read_input(&mut rt.stdin(), &mut input);
-    let n = read.count;
-    if read.failed {
-        let _ = eprintln!(rt; "ask: cannot read the question");
-    } else {
-        print_answer(&rt, &input[..n]);
+    let mut input = cleared::<ROOM>();
+    prove_eq!(input.len(), 16390); // a question's head has 5 bytes, and the longest log 16384
+    match read_input(&mut rt.stdin(), &mut input) {
+        Ok(n) => print_answer(&rt, &input[..n]),
+        Err(_) => {
+            let _ = eprintln!(rt; "ask: cannot read the question");
+        }
     }
-}
-
-// A function of its own, so that no proof has to look at each of the bytes.
-fn cleared() -> [u8; ROOM]
-    ensures { 16390 ≡ length result }
-{
-    [0; ROOM]
 }
 
 fn print_answer(rt: &(impl Print + Eprint), input: &[u8]) {

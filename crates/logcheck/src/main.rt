@@ -5,31 +5,22 @@
 // been written. Its exit status is 0 in any case.
 #![tactic(auto)]
 
-ghost use Rattle.std.specs.Prelude.{length, ◌≡◌};
-
 use format::record::MOST_BYTES;
 use printing::put::TEXT;
-use reading::read_input;
+use reading::{cleared, read_input};
 use text::log_text;
 
 const ROOM: usize = MOST_BYTES + 1;
 
 fn main(rt: HostRuntime) {
-    let mut log = cleared();
-    let input = read_input(&mut rt.stdin(), &mut log);
-    let n = input.count;
-    if input.failed {
-        let _ = eprintln!(rt; "logcheck: cannot read the log");
-    } else {
-        print_answer(&rt, &log[..n]);
+    let mut log = cleared::<ROOM>();
+    prove_eq!(log.len(), 16385); // the longest log has 16384 bytes
+    match read_input(&mut rt.stdin(), &mut log) {
+        Ok(n) => print_answer(&rt, &log[..n]),
+        Err(_) => {
+            let _ = eprintln!(rt; "logcheck: cannot read the log");
+        }
     }
-}
-
-// A function of its own, so that no proof has to look at each of the bytes.
-fn cleared() -> [u8; ROOM]
-    ensures { 16385 ≡ length result }
-{
-    [0; ROOM]
 }
 
 fn print_answer(rt: &(impl Print + Eprint), log: &[u8]) {

@@ -1,37 +1,42 @@
 // Standard input, or any other reader, read up to its end or to that of a buffer.
 #![tactic(auto)]
 
-ghost use Rattle.std.specs.Prelude.{◌≡◌, ◌<◌, ◌≤◌, false, length, take};
+ghost use Rattle.std.specs.Prelude.{◌≡◌, ◌<◌, ◌≤◌, ℕ, IfOk, length, slice_index, take};
 ghost use Rattle.std.specs.Io.KnownBytes.{Consumes, IsAtEnd};
+ghost use Rattle.reading.specs.Read.{bytes_read};
 
 use std::io::Read;
 
-// What reading comes to: how many bytes were read, and whether the last read failed. A caller then gives no
-// answer, since half an input could have another. A call that a signal interrupts counts as one that failed.
-#[derive(Clone, Copy)]
-pub struct Input {
+// A read failed, and `count` bytes were read before it. A caller then gives no answer, since half an input could
+// have another. A call that a signal interrupts counts as one that failed.
+#[derive(Clone, Copy, Debug, PartialEq, Eq)]
+pub struct ReadFailed {
     pub count: usize,
-    pub failed: bool,
 }
 
-// What was read stands in the front of the buffer. Where the buffer was not filled and no read failed, the input is at its end.
-pub fn read_input<R: Read>(reader: &mut R, buffer: &mut [u8]) -> Input
-    ensures within { result.count ≤ length buffer.new }
-    ensures front { result.count ≡ length (take result.count buffer.new) }
-    ensures reads { Consumes (R.remaining reader.old) (R.remaining reader.new) (take result.count buffer.new) }
-    ensures ends { result.failed ≡ false → result.count < length buffer.new → IsAtEnd (R.remaining reader.new) }
+// What was read stands in the front of the buffer, whether or not a read failed. Where none failed and the buffer was not filled, the
+// input is at its end.
+pub fn read_input<R: Read>(reader: &mut R, buffer: &mut [u8]) -> Result<usize, ReadFailed>
+    ensures within { bytes_read result ≤ length buffer.new }
+    ensures front { bytes_read result ≡ length (take (bytes_read result) buffer.new) }
+    ensures reads { Consumes (R.remaining reader.old) (R.remaining reader.new) (take (bytes_read result) buffer.new) }
+    ensures ends { IfOk result (λ n. n < length buffer.new → IsAtEnd (R.remaining reader.new)) }
 {
     let mut count = 0;
-    let mut failed = false;
     while count < buffer.len() {
         match reader.read(&mut buffer[count..]) {
             Ok(0) => break,
             Ok(n) => count += n,
-            Err(_) => {
-                failed = true;
-                break;
-            }
+            Err(_) => return Err(ReadFailed { count }),
         }
     }
-    Input { count, failed }
+    Ok(count)
+}
+
+// An array of zero bytes. A caller's proof learns that its bytes are zero, and looks at none of them, however many they are.
+pub fn cleared<const N: usize>() -> [u8; N]
+    ensures whole { length result ≡ N }
+    ensures zero { (k : ℕ) → slice_index result k ≡ 0 }
+{
+    [0; N]
 }

@@ -6,89 +6,63 @@
 // made by the second checker: second/src/bin/trial_stack says how.
 #![tactic(auto)]
 
-ghost use Rattle.std.specs.Prelude.{◌+◌, ◌≤◌, ◌<◌, ◌≡◌, length};
-ghost use Rattle.trial.specs.Stack.{header_size};
+ghost use Rattle.std.specs.Prelude.{◌≡◌, ◌↔◌, ◌+◌, ◌≤◌, IfSome, IsSome, drop, length, take};
+ghost use Rattle.trial.specs.Stack.{header_size, log_size, room_asked};
 
 use printing::put::TEXT;
-use reading::read_input;
+use reading::{cleared, read_input};
 use text::judged_text;
 
 // The longest stack: no more of it is read.
 const MOST_STACK: usize = 65536;
 
-// The bytes before a log: the two lengths.
-const HEADER_SIZE: usize = 4;
-
 // The longest answer buffer that is lent.
 const MOST_ROOM: usize = 400;
 
-fn main(rt: HostRuntime) {
-    let mut stack = cleared();
-    let n = read_input(&mut rt.stdin(), &mut stack).count;
-    run(&rt, &stack[..n], &mut [0u8; MOST_ROOM]);
+// A log as it stands in a stack: its bytes, the length of the answer buffer that it asks for, and the stack behind it.
+#[derive(Clone, Copy)]
+struct Stored<'a> {
+    log: &'a [u8],
+    room: usize,
+    rest: &'a [u8],
 }
 
-// A function of its own, so that no proof has to look at each of the bytes.
-fn cleared() -> [u8; MOST_STACK]
-    ensures { 65536 ≡ length result }
-{
-    [0; MOST_STACK]
+// Where a read fails, what was read before it is judged.
+fn main(rt: HostRuntime) {
+    let mut stack = cleared::<MOST_STACK>();
+    let n = read_input(&mut rt.stdin(), &mut stack).unwrap_or_else(|failed| failed.count);
+    run(&rt, &stack[..n], &mut [0; MOST_ROOM]);
 }
 
 // Judges the logs of a stack in turn. They share the answer buffer, so that each finds in it what the one before has left.
-fn run(rt: &impl Print, stack: &[u8], answer: &mut [u8]) {
-    let mut at = 0;
-    let mut k: u64 = 0;
-    while at < stack.len() {
-        let end = log_end(stack, at);
-        if stack.len() < end {
-            print_line(rt, "trial: the stack ends inside log ", k);
+fn run(rt: &impl Print, mut stack: &[u8], answer: &mut [u8]) {
+    for k in 0u64.. {
+        if stack.is_empty() {
             break;
         }
-        print_line(rt, "log ", k);
-        let room = least(number_at(stack, at + 2), answer.len());
-        let start = at + HEADER_SIZE;
-        print_answer(rt, &stack[start..end], &mut answer[..room]);
-        at = end;
-        k += 1;
+        let Some(stored) = first_log(stack) else {
+            let _ = println!(rt; "trial: the stack ends inside log {k}");
+            break;
+        };
+        let _ = println!(rt; "log {k}");
+        let room = stored.room.min(answer.len());
+        print_answer(rt, stored.log, &mut answer[..room]);
+        stack = stored.rest;
     }
 }
 
-// Where the log ends whose header begins at `at`: past the end of the stack where it is cut off, in its header or behind that.
-fn log_end(stack: &[u8], at: usize) -> usize
-    requires { at < length stack.now }
-    ensures { at + header_size ≤ result }
+// The first log of a stack and the rest behind it, or `None` where the stack ends inside that log or the two lengths before it.
+fn first_log(stack: &[u8]) -> Option<Stored<'_>>
+    ensures whole { IsSome result ↔ (header_size + log_size stack.now ≤ length stack.now) }
+    ensures log { IfSome result (λ it. it.log.now ≡ take (log_size stack.now) (drop header_size stack.now)) }
+    ensures room { IfSome result (λ it. it.room ≡ room_asked stack.now) }
+    ensures rest { IfSome result (λ it. it.rest.now ≡ drop (header_size + log_size stack.now) stack.now) }
 {
-    if stack.len() - at < HEADER_SIZE {
-        at + HEADER_SIZE
-    } else {
-        at + HEADER_SIZE + number_at(stack, at)
-    }
-}
-
-// Two bytes of the stack as a number, the low one first.
-fn number_at(stack: &[u8], at: usize) -> usize
-    requires { at + 1 < length stack.now }
-    ensures { result < 65536 }
-{
-    wide(stack[at]) + wide(stack[at + 1]) * 256
-}
-
-// A byte as a number of the width that lengths have.
-fn wide(x: u8) -> usize
-    ensures { result < 256 }
-{
-    x as usize
-}
-
-fn least(a: usize, b: usize) -> usize
-    ensures { (result ≤ a) × (result ≤ b) }
-{
-    if a < b { a } else { b }
-}
-
-fn print_line(rt: &impl Print, words: &str, k: u64) {
-    let _ = println!(rt; "{words}{k}");
+    let (&[a, b, c, d], rest) = stack.split_first_chunk::<4>()?;
+    let size = usize::from(u16::from_le_bytes([a, b]));
+    let room = usize::from(u16::from_le_bytes([c, d]));
+    let (log, rest) = rest.split_at_checked(size)?;
+    Some(Stored { log, room, rest })
 }
 
 fn print_answer(rt: &impl Print, log: &[u8], answer: &mut [u8]) {
