@@ -1,23 +1,25 @@
 -- While the walk goes back, the path at the end of the buffer is the rule's path, and what is still to come is the rule's walk. No
 -- transaction is on it twice, so it never outgrows the buffer.
-use Prim.Native.Nat.{ℕ, suc, ◌-◌, ◌<◌, ◌≤◌}
+use Prim.Native.Nat.{ℕ, suc, ◌+◌, ◌-◌, ◌<◌, ◌≤◌}
 use native.Mathlib.Omega.{arith}
+use native.Mathlib.Numerals.{add-one}
 use mathlib.Core.Path.{◌≡◌, refl, sym, ◌∙◌, ap, subst}
 use mathlib.Core.Bool.{Bool, true, false, ◌||◌, cond}
 use mathlib.Core.Logic.{⊎_elim}
 use mathlib.Core.List.{List, [], ◌∷◌}
 use mathlib.Core.Option.{Option}
 use lib.Dec.{eqb}
-use lib.ListN.{length, drop, get_or, set, length-set, length-drop, drop_of_length-le}
+use lib.ListN.{length, take, drop, get_or, set, length-set, length-drop, drop_of_length-le}
 use lib.Seq.{drop-cons, drop-set-lt, get_or-set_same}
+use Rattle.std.proofs.lemmas.Slice.{between_to_end}
 use Rattle.sets.specs.Bits.{has}
 use Rattle.sets.proofs.Truth.{clash, or_swap}
 use Rattle.sets.proofs.Members.{has_zero}
 use Rattle.sets.proofs.Counts.{count_low}
-use Rattle.lines.specs.Rule.{among, walk, up_to}
+use Rattle.lines.specs.Rule.{among, place_of, walk, up_to}
 use Rattle.lines.specs.Lines.{NoneTwice}
 use Rattle.cycles.specs.WaitsFor.{back}
-use Rattle.lines.proofs.Lists.{among_nil, among_cons, among_cases, pigeonhole}
+use Rattle.lines.proofs.Lists.{among_nil, among_cons, among_cases, place_low, pigeonhole}
 use Rattle.lines.proofs.Clauses.{walk_steps}
 
 -- a buffer with one put before the path
@@ -108,11 +110,26 @@ module _ (n : ℕ) (waits : List ℕ) (first : ℕ) where
           longer : drop (at - 1) (set path (at - 1) again) ≡ again ∷ drop at path
           longer = front path (at - 1) again (omega (arith, w.whole, w.inside, path_room)) ∙ ap (λ (k : ℕ). again ∷ drop k path) down
 
-    -- one comes again
+    -- one comes again: of the path, cut out of the buffer, the part up to it is the walk
     module _ (old : has seen again ≡ true) where
-      pub comes_again : among (drop at path) again ≡ true
-      comes_again = sym (w.seen_are again) ∙ old
+      abbrev cut : List ℕ
+      cut = take (n - at) (drop at path)
 
-      pub walk_done : up_to again (drop at path) ≡ walk (back waits) n first (first ∷ [])
-      walk_done =
-          sym (came true comes_again) ∙ w.same_walk
+      is_cut : cut ≡ drop at path
+      is_cut = between_to_end path at n (omega (arith, w.whole))
+
+      comes_again : among cut again ≡ true
+      comes_again = ap (λ (xs : List ℕ). among xs again) is_cut ∙ sym (w.seen_are again) ∙ old
+
+      pub last_inside : place_of again cut < length cut
+      last_inside = place_low again cut comes_again
+
+      pub cut_low : length cut ≤ n
+      cut_low = omega (arith, ap length is_cut, length-drop at path, w.whole)
+
+      pub walk_done : (last : ℕ) → last ≡ place_of again cut → take (last + 1) cut ≡ walk (back waits) n first (first ∷ [])
+      walk_done last e =
+          ap (λ (k : ℕ). take k cut) (add-one last ∙ ap suc e)
+          ∙ ap (up_to again) is_cut
+          ∙ sym (came true (sym (w.seen_are again) ∙ old))
+          ∙ w.same_walk
