@@ -9,30 +9,30 @@ pub loop-seen-init : goal.loop-seen-init
 loop-seen-init c = path_start numbers c.args.waits.now c.args.first c.args.path.now (search rules) c.requires.first_low
 
 pub overflow_sub-at : goal.overflow_sub-at
-overflow_sub-at c = path_room _ _ _ _ _ _ _ c.loop-seen.invariant (sym c.has.ensures ∙ c.loop-seen-test.true)
+overflow_sub-at c = path_room c.loop-seen.invariant (sym c.has.ensures ∙ c.loop-seen-test.true)
 
 pub loop-seen-smaller : goal.loop-seen-smaller
-loop-seen-smaller c = omega (arith, path_room _ _ _ _ _ _ _ c.loop-seen.invariant (sym c.has.ensures ∙ c.loop-seen-test.true))
+loop-seen-smaller c = omega (arith, path_room c.loop-seen.invariant (sym c.has.ensures ∙ c.loop-seen-test.true))
 
 pub loop-seen-preserved : goal.loop-seen-preserved
 loop-seen-preserved c =
-    path_step _ _ _ _ _ _ _ c.loop-seen.invariant (sym c.has.ensures ∙ c.loop-seen-test.true) c.with-seen.result
-    c.with-seen.ensures (c.requires.kept.low c.loop-seen.again)
+    path_step c.loop-seen.invariant (sym c.has.ensures ∙ c.loop-seen-test.true) c.with-seen.result c.with-seen.ensures
+    (c.requires.kept.low c.loop-seen.again)
 
 pub overflow_add-result : goal.overflow_add-result
 overflow_add-result c =
     let old = sym c.has.ensures ∙ c.loop-seen-test.false in
-    omega (arith, last_inside _ _ _ _ _ _ _ c.loop-seen.invariant old, cut_low _ _ _ _ _ _ _ c.loop-seen.invariant old)
+    omega (arith, last_inside c.loop-seen.invariant old, cut_low c.loop-seen.invariant old)
 
 pub slice_bounds-result-end : goal.slice_bounds-result-end
 slice_bounds-result-end c =
     let old = sym c.has.ensures ∙ c.loop-seen-test.false in
-    omega (arith, last_inside _ _ _ _ _ _ _ c.loop-seen.invariant old, length-take {A = ℕ})
+    omega (arith, last_inside c.loop-seen.invariant old, length-take {A = ℕ})
 
 pub returns : goal.returns
 returns c =
     let old = sym c.has.ensures ∙ c.loop-seen-test.false in
     record {
-      walked = walk_done _ _ _ _ _ _ _ c.loop-seen.invariant old c.place_of.result c.place_of.ensures;
-      fits = omega (arith, cut_low _ _ _ _ _ _ _ c.loop-seen.invariant old, length-take {A = ℕ});
+      walked = walk_done c.loop-seen.invariant old c.place_of.result c.place_of.ensures;
+      fits = omega (arith, cut_low c.loop-seen.invariant old, length-take {A = ℕ});
     }
