@@ -4,6 +4,7 @@ ghost use Rattle.rules.specs.Passes.{Passes};
 ghost use Rattle.checked_log.specs.Promises.{ChecksPassed};
 
 use crate::check::check;
+use format::log::Log;
 use refusals::refusal::Refusal;
 use std::marker::Model;
 
@@ -41,10 +42,11 @@ impl<'a> Passed<'a> {
         Passed { bytes: log }
     }
 
-    pub fn bytes(&self) -> &'a [u8]
-        ensures same { result.now ≡ self.now }
+    // The log, which is within the limits.
+    pub fn log(&self) -> Log<'a>
+        ensures same { result ≡ self.now }
         ensures passes { Passes self.now }
     {
-        self.bytes
+        Log::new(self.bytes)
     }
 }

@@ -3,18 +3,18 @@ ghost use Rattle.std.specs.Prelude.{◌≡◌, ◌<◌};
 ghost use Rattle.histories.specs.History.{writes_copy};
 ghost use Rattle.rules.specs.LogHistory.{history_of};
 ghost use Rattle.rules.specs.Record.{records};
-ghost use Rattle.rules.specs.Passes.{InLimits};
 ghost use Rattle.checked_log.specs.Promises.{FindsSource, TellsSource};
 
-use crate::check::check;
+use crate::passed::Passed;
 use format::kind::Kind;
-use format::record::{Record, bytes_at, record_count};
+use format::log::Log;
+use format::record::Record;
 use refusals::refusal::Refusal;
 
 // The source of a read: the transaction, and the place of its write record.
 #[derive(Clone, Copy, Debug, PartialEq, Eq)]
 pub struct Source {
-    pub transaction: u8,
+    pub transaction: usize,
     pub place: usize,
 }
 
@@ -25,19 +25,18 @@ fn writes_copy(r: &Record<'_>, copy: usize) -> bool
     r.copy() == copy && r.is(Kind::Write)
 }
 
-// In a log within the limits, the last write of record k's copy before it; none where k is no read, or where no earlier record
-// writes its copy. Walks back over the records between.
-pub fn source_record(log: &[u8], k: usize) -> Option<usize>
-    requires in_limits { InLimits log.now }
-    requires there { k < records log.now }
+// The last write of record k's copy before it; none where k is no read, or where no earlier record writes its copy. Walks back over the
+// records between.
+pub fn source_record(log: &Log<'_>, k: usize) -> Option<usize>
+    requires { k < records log.now }
     ensures { FindsSource log.now k result }
 {
-    let r = Record::at(log, k);
+    let r = log.record(k);
     if !r.is(Kind::Read) {
         return None;
     }
     let copy = r.copy();
-    (0..k).rev().find(|&e| writes_copy(&Record::at(log, e), copy))
+    (0..k).rev().find(|&e| writes_copy(&log.record(e), copy))
 }
 
 // The write that record k reads, by its transaction and its place; none for a write or a commit. Any bytes and any number may be asked:
@@ -45,13 +44,13 @@ pub fn source_record(log: &[u8], k: usize) -> Option<usize>
 pub fn source_of_record(log: &[u8], k: usize) -> Result<Option<Source>, Refusal>
     ensures { TellsSource log.now k result }
 {
-    check(log)?;
-    if record_count(log) <= k {
+    let log = Passed::check(log)?.log();
+    if log.records() <= k {
         return Err(Refusal::BadQuestion);
     }
-    match source_record(log, k) {
+    match source_record(&log, k) {
         Some(e) => Ok(Some(Source {
-            transaction: bytes_at(log, e).transaction,
+            transaction: log.record(e).transaction(),
             place: e,
         })),
         None => Ok(None),

@@ -6,11 +6,11 @@ ghost use Rattle.sets.specs.Bits.{has, Holds};
 ghost use Rattle.histories.specs.Reasons.{gives_conflict, conflict};
 ghost use Rattle.rules.specs.LogHistory.{history_of};
 ghost use Rattle.rules.specs.Record.{records, transactions};
-ghost use Rattle.rules.specs.Passes.{InLimits};
 ghost use Rattle.conflicts.specs.Kept.{KeptFrom};
 
 use format::kind::Kind;
-use format::record::{Copy, Record, TRANSACTIONS, record_count};
+use format::log::Log;
+use format::record::{Copy, Record, TRANSACTIONS};
 use sets::Set;
 use tables::add::{add_own, add_to_row, add_writer};
 
@@ -56,17 +56,16 @@ impl Later {
     }
 }
 
-// The conflicts of a log within the limits, found in one pass from its end, a fixed number of steps for each record. Before it 16 KiB
+// The conflicts of a log, found in one pass from its end, a fixed number of steps for each record. Before it 16 KiB
 // are cleared.
-pub fn conflicts(log: &[u8]) -> [Set; TRANSACTIONS]
-    requires in_limits { InLimits log.now }
+pub fn conflicts(log: &Log<'_>) -> [Set; TRANSACTIONS]
     ensures { Holds transactions (conflict (history_of log.now)) result }
 {
     let mut table = [Set::EMPTY; TRANSACTIONS];
     let mut later = Later::new();
-    for k in (0..record_count(log)).rev() {
+    for k in (0..log.records()).rev() {
         // The row is stored last: what was read of the two tables is then still at hand when they are stored.
-        let r = Record::at(log, k);
+        let r = log.record(k);
         let conflicting = later.conflicting(&r);
         later.keep(&r);
         add_to_row(&r, conflicting, &mut table);

@@ -11,7 +11,7 @@ use Rattle.conflicts.proofs.conflicts.Goals as goal
 pub loop-k-init : goal.loop-k-init
 loop-k-init c =
     let log = c.args.log.now in
-    rw c.record_count-k.ensures
+    rw c.records-k.ensures
     (record { rows = rows_start log (gives_conflict (history_of log)) (empty_table transactions); kept = c.new-later.ensures log })
 
 pub loop-k-preserved : goal.loop-k-preserved
@@ -21,8 +21,8 @@ loop-k-preserved c =
     record {
       rows = rows_add log (gives_conflict (history_of log)) (l.k - 1) (omega arith)
           (back_one (λ x. LaterRows log (gives_conflict (history_of log)) x l.table) l.k c.loop-k-test.true l.invariant.rows)
-          c.conflicting-conflicting.result (rw c.at-r.ensures at c.conflicting-conflicting.ensures) (rw c.at-r.ensures at c.add_to_row.ensures);
-      kept = rw c.at-r.ensures at c.keep.ensures;
+          c.conflicting-conflicting.result (rw c.record-r.ensures at c.conflicting-conflicting.ensures) (rw c.record-r.ensures at c.add_to_row.ensures);
+      kept = rw c.record-r.ensures at c.keep.ensures;
     }
 
 pub returns : goal.returns
