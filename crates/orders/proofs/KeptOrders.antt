@@ -21,7 +21,7 @@ use Rattle.rules.proofs.PassedLogs.{in_log_hit}
 use Rattle.tables.specs.Kept.{LaterRows}
 use Rattle.tables.proofs.Adding.{sets_whole, rows_whole}
 use Rattle.orders.specs.declared.order.WriteOrder.{WriteOrder}
-use Rattle.orders.specs.Kept.{LaterItemWriters, LaterCommits, is_earlier_commit, LaterOrders, KeptFrom, KeptOrder}
+use Rattle.orders.specs.Kept.{LaterItemWriters, LaterCommits, is_earlier_commit, KeptFrom, KeptOrder}
 
 module _ (log : List ℕ) where
   abbrev says_commit : ℕ → ℕ → Bool

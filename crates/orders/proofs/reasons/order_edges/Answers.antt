@@ -1,5 +1,5 @@
 -- What the check leaves to show of `orders::reasons::order_edges`; its invariant stands beside this file.
-use Rattle.std.proofs.Common.{arith, subst, ◌-◌, ◌+◌, ℕ, Bool, List}
+use Rattle.std.proofs.Common.{arith, subst, ◌-◌}
 use Rattle.histories.specs.Reasons.{gives_write_order, gives_read_before}
 use Rattle.rules.specs.LogHistory.{history_of}
 use Rattle.rules.specs.Record.{transactions}
