@@ -8,7 +8,7 @@ ghost use Rattle.orders.specs.Kept.{KeptFrom, KeptOrder};
 
 use checked_log::passed::Passed;
 use format::kind::Kind;
-use format::record::{Copy, Record, TRANSACTIONS, record_count};
+use format::record::{Copy, Record, TRANSACTIONS};
 use sets::Set;
 use tables::add::{add_to_row, add_writer};
 
@@ -26,11 +26,11 @@ impl WriteOrder {
         ensures kept_order { KeptOrder log.now result.0 }
         ensures members { (t : ℕ) → has result.1 t ≡ in_log log.now t }
     {
-        let log = log.bytes();
+        let log = log.log();
         let mut order = WriteOrder::new();
         let mut committed = Set::EMPTY;
-        for k in (0..record_count(log)).rev() {
-            committed = order.keep(&Record::at(log, k), committed);
+        for k in (0..log.records()).rev() {
+            committed = order.keep(&log.record(k), committed);
         }
         (order, committed)
     }

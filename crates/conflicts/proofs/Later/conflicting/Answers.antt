@@ -26,7 +26,7 @@ returns c j =
     let k = c.args.r.now.place in
     let later = c.args.self.now in
     let at = c.copy-c.result in
-    let here = (c.copy-c.ensures.value, c.copy-c.ensures.below) in
+    let here : (at ≡ copy_of log k) × (at < items * sites) = (c.copy-c.ensures.value, c.copy-c.ensures.below) in
     let writers = has (get_or later.writers at c.index-self-c.result) j in
     let users = has (get_or later.users at c.index-self-c-2.result) j in
     c.union.ensures j

@@ -9,18 +9,18 @@ use Rattle.rules.specs.LogHistory.{history_of}
 use Rattle.rules.specs.Record.{item}
 use Rattle.orders.proofs.reasons.after_by_read.Goals as goal
 
-pub at-requires-in-Some : goal.at-requires-in-Some
-at-requires-in-Some c =
+pub record-requires-in-Some : goal.record-requires-in-Some
+record-requires-in-Some c =
     let log = c.args.log.now in
     let f = sourced (history_of log) c.args.k c.in-Some.e (sym c.in-Some.ensures) in
-    c.requires.in_limits _ (omega (arith, f.earlier, c.requires.there))
+    (omega (arith, f.earlier, c.requires.there))
 
 pub returns-in-Some : goal.returns-in-Some
 returns-in-Some c j =
     let log = c.args.log.now in
     let k = c.args.k in
-    (rw c.at.ensures at c.writers_after.ensures) j
-    ∙ ap (λ (t : ℕ). writer_after (history_of log) (item log k) t j) (rw c.at-in-Some.ensures at c.transaction.ensures.value)
+    (rw c.record.ensures at c.writers_after.ensures) j
+    ∙ ap (λ (t : ℕ). writer_after (history_of log) (item log k) t j) (rw c.record-in-Some.ensures at c.transaction.ensures.value)
     ∙ sym (read_gives (history_of log) k j c.in-Some.e refl (sym c.in-Some.ensures))
 
 pub returns-in-None : goal.returns-in-None

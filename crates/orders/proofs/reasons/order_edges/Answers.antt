@@ -11,7 +11,7 @@ use Rattle.orders.proofs.reasons.order_edges.Goals as goal
 pub loop-k-init : goal.loop-k-init
 loop-k-init c =
     let log = c.args.log.now in
-    rw c.record_count-k.ensures
+    rw c.records-k.ensures
     (record {
       order_rows = rows_start log (gives_write_order (history_of log)) (empty_table transactions);
       read_rows = rows_start log (gives_read_before (history_of log)) (empty_table transactions);
@@ -26,10 +26,10 @@ loop-k-preserved c =
     record {
       order_rows = rows_add log by_order (l.k - 1) (omega arith)
           (back_one (λ x. LaterRows log by_order x l.by_order) l.k c.loop-k-test.true l.invariant.order_rows)
-          c.after_by_order.result (rw c.at-r.ensures at c.after_by_order.ensures) (rw c.at-r.ensures at c.add_to_row.ensures);
+          c.after_by_order.result (rw c.record-r.ensures at c.after_by_order.ensures) (rw c.record-r.ensures at c.add_to_row.ensures);
       read_rows = rows_add log by_read (l.k - 1) (omega arith)
           (back_one (λ x. LaterRows log by_read x l.by_read) l.k c.loop-k-test.true l.invariant.read_rows)
-          c.after_by_read.result c.after_by_read.ensures (rw c.at-r.ensures at c.add_to_row-in-loop-k.ensures);
+          c.after_by_read.result c.after_by_read.ensures (rw c.record-r.ensures at c.add_to_row-in-loop-k.ensures);
     }
 
 pub returns-clause-order_holds : goal.returns-clause-order_holds
