@@ -15,7 +15,7 @@ use writing::RECORD_SIZE;
 #[derive(Clone, Copy)]
 pub enum Columns {
     Transaction,
-    TransactionAndReason,
+    WithReason,
 }
 
 // The line that a line or a cycle begins with: a word and how many members there are.
@@ -79,7 +79,7 @@ fn record_line(transaction: u8, reason: u8, columns: Columns) -> Line
 {
     match columns {
         Columns::Transaction => numbers_line(transaction.into(), None),
-        Columns::TransactionAndReason => numbers_line(transaction.into(), Some(reason.into())),
+        Columns::WithReason => numbers_line(transaction.into(), Some(reason.into())),
     }
 }
 
