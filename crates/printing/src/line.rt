@@ -36,7 +36,8 @@ pub fn first_line(word: &str, n: usize) -> Line
 // The line of a refusal.
 #[tactic(auto, using(crate::proofs::Decimals::lengths), unfolding(crate::specs::Lines::refusal_line, crate::specs::Lines::refused_word, crate::specs::Lines::space, crate::specs::Lines::newline))]
 pub fn refusal_line(number: u64, place: usize) -> Line
-    ensures { result.bytes ≡ refusal_line number place }
+    ensures is { result.bytes ≡ refusal_line number place }
+    ensures fits { array_string_len result ≤ first_room }
 {
     let mut line = Line::new();
     line.push_str("refused ");
@@ -50,7 +51,8 @@ pub fn refusal_line(number: u64, place: usize) -> Line
 // A line of one number, or of two.
 #[tactic(auto, using(crate::proofs::Decimals::lengths), unfolding(crate::specs::Lines::numbers_line, crate::specs::Lines::space, crate::specs::Lines::newline))]
 pub fn numbers_line(first: u64, second: Option<u64>) -> Line
-    ensures { result.bytes ≡ numbers_line first second }
+    ensures is { result.bytes ≡ numbers_line first second }
+    ensures fits { array_string_len result ≤ first_room }
 {
     let mut line = Line::new();
     push_decimal(&mut line, first);
