@@ -9,7 +9,6 @@
 ghost use Rattle.std.specs.Prelude.{◌+◌, ◌≤◌, ◌<◌, ◌≡◌, length};
 ghost use Rattle.trial.specs.Stack.{header_size};
 
-use printing::put::TEXT;
 use reading::read_input;
 use text::judged_text;
 
@@ -92,7 +91,6 @@ fn print_line(rt: &impl Print, words: &str, k: u64) {
 }
 
 fn print_answer(rt: &impl Print, log: &[u8], answer: &mut [u8]) {
-    let mut text = [0u8; TEXT];
-    let n = judged_text(log, answer, &mut text);
-    let _ = rt.write_all(&text[..n]);
+    let text = judged_text(log, answer);
+    let _ = print!(rt; "{text}");
 }
