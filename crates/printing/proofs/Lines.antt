@@ -1,5 +1,5 @@
 -- Laws of a text's lines: how long they are, that the records' lines are put one after another, and that they read only the records.
-use Prim.Native.Nat.{ℕ, zero, suc, ◌+◌, ◌*◌, ◌^◌, ◌<◌, ◌≤◌}
+use Prim.Native.Nat.{ℕ, zero, suc, ◌+◌, ◌*◌, ◌<◌, ◌≤◌}
 use native.Mathlib.Omega.{arith}
 use native.Mathlib.Numerals.{add-one}
 use mathlib.Core.Path.{◌≡◌, refl, ap, ap₂}
@@ -7,15 +7,10 @@ use mathlib.Core.Bool.{Bool, true, false}
 use mathlib.Core.List.{List, ◌++◌}
 use lib.ListN.{length, length-append}
 use Rattle.answers.specs.Verdict.{record_size, entry}
-use Rattle.printing.specs.Lines.{space, newline, first_line, numbers_line, record_line, record_lines, first_room, record_room}
-use Rattle.printing.proofs.Decimals.{number_short, byte_short}
+use Rattle.printing.specs.Lines.{space, newline, numbers_line, record_line, record_lines, record_room}
+use Rattle.printing.proofs.Decimals.{byte_short}
 
--- a first line fits
-pub first_short : (word : List ℕ) (n : ℕ) → length word ≤ 8 → n < 2 ^ 64 → length (first_line word n) ≤ first_room
-unfolding first_line space newline
-first_short word n l m = simp length-append (omega (arith, l, number_short n m))
-
--- and so does the line of a record
+-- the line of a record fits its room
 pub record_short : (reasons : Bool) (t r : ℕ) → t < 256 → r < 256 → length (record_line reasons t r) ≤ record_room
 unfolding record_line numbers_line space newline
 record_short true t r l m = simp length-append (omega (arith, byte_short t l, byte_short r m))

@@ -14,6 +14,8 @@ const RECORD_LINE: usize = 3 + 1 + 3 + 1;
 // The room that any text fits into: a first line, and a line for each transaction.
 pub const TEXT: usize = LINE + TRANSACTIONS * RECORD_LINE;
 
+// One line, whichever it is.
 pub type Line = ArrayString<LINE>;
 
+// All the lines of an answer.
 pub type Text = ArrayString<TEXT>;
