@@ -6,7 +6,6 @@
 #![tactic(auto)]
 
 use format::record::MOST_BYTES;
-use printing::put::TEXT;
 use questions::asked::{HEAD, asked_text};
 use reading::{cleared, read_input};
 
@@ -24,13 +23,11 @@ fn main(rt: HostRuntime) {
 }
 
 fn print_answer(rt: &(impl Print + Eprint), input: &[u8]) {
-    if input.len() < HEAD {
+    let Some(text) = asked_text(input) else {
         let _ = eprintln!(rt; "ask: the question is not whole");
         return;
-    }
-    let mut text = [0u8; TEXT];
-    let n = asked_text(input, &mut text);
-    if rt.write_all(&text[..n]).is_err() {
+    };
+    if print!(rt; "{text}").is_err() {
         let _ = eprintln!(rt; "ask: cannot write the answer");
     }
 }

@@ -6,7 +6,6 @@
 #![tactic(auto)]
 
 use format::record::MOST_BYTES;
-use printing::put::TEXT;
 use reading::{cleared, read_input};
 use text::log_text;
 
@@ -24,9 +23,8 @@ fn main(rt: HostRuntime) {
 }
 
 fn print_answer(rt: &(impl Print + Eprint), log: &[u8]) {
-    let mut text = [0u8; TEXT];
-    let n = log_text(log, &mut text);
-    if rt.write_all(&text[..n]).is_err() {
+    let text = log_text(log);
+    if print!(rt; "{text}").is_err() {
         let _ = eprintln!(rt; "logcheck: cannot write the answer");
     }
 }

@@ -1,94 +1,33 @@
--- Laws of numbers in decimal: how many digits they have, and that `io::decimal` writes them. The only file that opens `decimal`.
-use Prim.Native.Nat.{ℕ, zero, suc, ◌*◌, ◌-◌, ◌/◌, ◌%◌, ◌^◌, ◌<◌, ◌≤◌}
+-- Laws of numbers in decimal: they are what std says `{}` prints, and how many digits they have. The only file that opens `decimal`.
+use Prim.Native.Nat.{ℕ, suc, ◌^◌, ◌<◌, ◌≤◌}
 use native.Mathlib.Omega.{arith}
-use native.Mathlib.Nat.{mod-lt, pow-suc, div-lt_iff_lt-mul, le-div_iff_mul-le, one-le-pow, div-lt_self}
-use native.Mathlib.Decide.{dec_lt}
-use mathlib.Core.Path.{◌≡◌, refl, sym, ◌∙◌, ap, ap₂, subst}
-use mathlib.Core.List.{List, [], ◌∷◌, ◌++◌}
+use native.Mathlib.Nat.{mod-eq_of_lt}
+use mathlib.Core.Path.{◌≡◌, refl}
 use lib.ListN.{length, length-append}
 use borrow.Author.Tests.{lt-ltb, le-ltb}
-use Rattle.io.specs.Digits.{hex_digit_ascii, last_digits, IsDigitCount}
+use Rattle.std.specs.Fmt as std
+use Rattle.std.proofs.lemmas.Fmt.{AppendsLastDigit, decimal_from_appends, length-decimal-le, length-decimal-le_succ}
 use Rattle.printing.specs.Lines.{digit, decimal_within, decimal}
 
--- a number of one digit, and one of more
-one_digit : (most n : ℕ) → n < 10 → decimal_within (suc most) n ≡ digit (n % 10) ∷ []
-unfolding decimal_within
-one_digit most n l = rw (lt-ltb n 10 l) refl
+-- the last digit goes behind the others
+appends : AppendsLastDigit decimal_within
+unfolding decimal_within digit
+appends =
+    record {
+      one = λ k n l. rw (lt-ltb n 10 l, mod-eq_of_lt l) refl;
+      more = λ k n l. rw (le-ltb n 10 l) refl;
+    }
 
-more_digits : (most n : ℕ) → 10 ≤ n → decimal_within (suc most) n ≡ decimal_within most (n / 10) ++ digit (n % 10) ∷ []
-unfolding decimal_within
-more_digits most n l = rw (le-ltb n 10 l) refl
-
-tens : (k : ℕ) → 10 ^ suc k ≡ 10 ^ k * 10
-tens k = pow-suc 10 k
-
-tenth_below : (n k : ℕ) → n < 10 ^ suc k → n / 10 < 10 ^ k
-tenth_below n k l = (div-lt_iff_lt-mul {k = 10} {x = n} {y = 10 ^ k} (omega arith)).1 (rw (tens k) at l)
-
-tenth_above : (n k : ℕ) → 10 ^ suc k ≤ n → 10 ^ k ≤ n / 10
-tenth_above n k l = (le-div_iff_mul-le {k = 10} {x = 10 ^ k} {y = n} (omega arith)).1 (rw (tens k) at l)
-
--- a number below 10 ^ k has at most k digits
-short_within : (most k n : ℕ) → n < 10 ^ suc k → length (decimal_within most n) ≤ suc k
-unfolding decimal_within
-short_within zero k n l = omega arith
-short_within (suc most) k n l = go k l (dec_lt n 10) (short_within most)
-  where
-    go : (k : ℕ) → n < 10 ^ suc k → Dec (n < 10) → ((k n : ℕ) → n < 10 ^ suc k → length (decimal_within most n) ≤ suc k)
-        → length (decimal_within (suc most) n) ≤ suc k
-    go k l (yes m) ih = rw (one_digit most n m) (omega arith)
-    go zero l (no m) ih = absurd (omega (arith, l, m, tens 0))
-    go (suc k) l (no m) ih =
-        rw (more_digits most n (omega (arith, m)))
-        (omega (
-          arith,
-          length-append (decimal_within most (n / 10)) (digit (n % 10) ∷ []),
-          ih k (n / 10) (tenth_below n (suc k) l),
-        ))
+pub printed_by_std : (n : ℕ) → n < 2 ^ 64 → decimal n ≡ std.decimal n
+unfolding decimal
+printed_by_std n l = decimal_from_appends decimal_within appends (suc n) n l (omega (arith, length-decimal-le_succ n l))
 
 -- a number of 64 bits has at most 20, and a byte 3
 pub number_short : (n : ℕ) → n < 2 ^ 64 → length (decimal n) ≤ 20
-unfolding decimal
-number_short n l = short_within (suc n) 19 n (omega (arith, l))
+number_short n l = rw (printed_by_std n l) (length-decimal-le 20 n (omega arith) (omega (arith, l)) l)
 
 pub byte_short : (n : ℕ) → n < 256 → length (decimal n) ≤ 3
-unfolding decimal
-byte_short n l = short_within (suc n) 2 n (omega (arith, l))
+byte_short n l = rw (printed_by_std n (omega (arith, l))) (length-decimal-le 3 n (omega arith) (omega (arith, l)) (omega (arith, l)))
 
--- a byte is a number of 64 bits
-pub byte_wide : {n : ℕ} → n < 256 → n < 2 ^ 64
-byte_wide l = omega (arith, l)
-
--- as `io` says a digit
-glyph_is : (n : ℕ) → hex_digit_ascii (n % 10) ≡ digit (n % 10)
-unfolding digit
-glyph_is n = rw (lt-ltb (n % 10) 10 (mod-lt n (omega arith))) refl
-
-pred : (k : ℕ) → suc k - 1 ≡ k
-pred k = omega arith
-
--- the fewest digits that hold a number are its digits in decimal
-spelled_within : (k most n : ℕ) → IsDigitCount 10 1 n k → n < most → last_digits 10 k n ≡ decimal_within most n
-spelled_within zero most n f l = absurd (omega (arith, f.0))
-spelled_within (suc k) zero n f l = absurd (omega (arith, l))
-spelled_within (suc zero) (suc most) n f l =
-    ap (λ (d : ℕ). d ∷ []) (glyph_is n) ∙ sym (one_digit most n (omega (arith, f.1, tens 0)))
-spelled_within (suc (suc k)) (suc most) n f l =
-    ap₂ (λ (ds : List ℕ) (d : ℕ). ds ++ d ∷ []) (spelled_within (suc k) most (n / 10) fewest shorter) (glyph_is n)
-    ∙ sym (more_digits most n large)
-  where
-    at_least : 10 ^ suc k ≤ n
-    at_least = subst (λ (j : ℕ). 10 ^ j ≤ n) (pred (suc k)) (f.2 (omega arith))
-
-    large : 10 ≤ n
-    large = omega (arith, at_least, tens k, one-le-pow k 10 (omega arith))
-
-    shorter : n / 10 < most
-    shorter = omega (arith, l, large, div-lt_self {n = n} {k = 10} (omega (arith, large)) (omega arith))
-
-    fewest : IsDigitCount 10 1 (n / 10) (suc k)
-    fewest = (omega arith, tenth_below n (suc k) f.1, λ m. subst (λ (j : ℕ). 10 ^ j ≤ n / 10) (sym (pred k)) (tenth_above n k at_least))
-
-pub spelled : (k n : ℕ) → IsDigitCount 10 1 n k → last_digits 10 k n ≡ decimal n
-unfolding decimal
-spelled k n f = spelled_within k (suc n) n f (omega arith)
+-- how long a line is whose parts are known
+pub ruleset lengths = (length-append, number_short)

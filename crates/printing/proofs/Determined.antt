@@ -1,15 +1,15 @@
--- The promises of src/line.rt and src/put.rt, and of whoever prints a text, determine what is answered and every byte of the buffer lent.
+-- The promises of src/line.rt, and of whoever prints a text, determine every byte of what is given.
 use Prim.Native.Nat.{ℕ}
 use mathlib.Core.Path.{◌≡◌, sym, ◌∙◌}
 use mathlib.Core.List.{List}
+use Rattle.arrayvec.specs.ArrayString.{ArrayString}
 use Rattle.printing.specs.Kept.{Put}
 use Rattle.printing.specs.Promises.{Prints}
 
--- THEOREM: any two places behind the same bytes, put into a buffer from the same place on, are equal, and so are the buffers left. So it is
--- for `put_bytes`, `put_first`, `put_refusal`, `put_numbers` and `put_records`.
-pub put_determined : (bytes old left right : List ℕ) (at r s : ℕ) → Put old at bytes left r → Put old at bytes right s → (r ≡ s) × (left ≡ right)
-put_determined bytes old left right at r s p q = (p.ends ∙ sym q.ends, p.written ∙ sym q.written)
+-- THEOREM: any two texts that come of the same bytes put behind the same text have the same bytes. So it is for `push_records`.
+pub put_determined : (bytes : List ℕ) (old left right : ArrayString) → Put old bytes left → Put old bytes right → left.bytes ≡ right.bytes
+put_determined bytes old left right p q = p ∙ sym q
 
--- two that print the same bytes to the same text have the same length, and leave the same
-pub same_text : (bytes old left right : List ℕ) (r s : ℕ) → Prints bytes old r left → Prints bytes old s right → (r ≡ s) × (left ≡ right)
-same_text bytes old left right r s p q = (p.counted ∙ sym q.counted, p.leaves ∙ sym q.leaves)
+-- two texts that print the same bytes have the same bytes
+pub same_text : (bytes : List ℕ) (left right : ArrayString) → Prints bytes left → Prints bytes right → left.bytes ≡ right.bytes
+same_text bytes left right p q = p.is ∙ sym q.is

@@ -1,4 +1,4 @@
-pub mod Puts
 pub mod Decimals
 pub mod Lines
+mod Records
 pub mod Determined

@@ -1,8 +1,7 @@
--- What the functions that put lines into a buffer say of it.
-use Rattle.std.specs.Prelude.{ℕ, ◌+◌, ◌≡◌, List, length}
-use Rattle.std.proofs.lemmas.List.Edits.{sets}
+-- What the functions that put something behind a text say of it.
+use Rattle.std.specs.Prelude.{◌≡◌, List, ℕ, ◌++◌}
+use Rattle.arrayvec.specs.ArrayString.{ArrayString}
 
--- bytes put into a buffer from place `at` on, and the place behind them
-pub record Put (old : List ℕ) (at : ℕ) (bytes new : List ℕ) (behind : ℕ) : Type 0 where
-  pub written : new ≡ sets old at bytes
-  pub ends : behind ≡ at + length bytes
+-- the text had the bytes of `old`, and now has these behind them
+abbrev pub Put : (old : ArrayString) → (bytes : List ℕ) → (new : ArrayString) → Type 0
+Put old bytes new = new.bytes ≡ old.bytes ++ bytes

@@ -1,6 +1,6 @@
 -- The lines that the programs print, those of document 01 and those of the two questions, in ASCII, with their numbers in decimal; and the room
 -- for them.
-use Rattle.std.specs.Prelude.{ℕ, zero, suc, ◌+◌, ◌*◌, ◌/◌, ◌%◌, Bool, true, false, cond, List, [], ◌∷◌, ◌++◌, ltb}
+use Rattle.std.specs.Prelude.{ℕ, zero, suc, ◌+◌, ◌*◌, ◌/◌, ◌%◌, Bool, true, false, cond, List, [], ◌∷◌, ◌++◌, ltb, Option, Some, None}
 use Rattle.rules.specs.Record.{transactions}
 use Rattle.answers.specs.Verdict.{record_size, entry}
 
@@ -37,17 +37,21 @@ first_line word n = word ++ space ++ decimal n ++ newline
 unfoldable pub refusal_line : ℕ → ℕ → List ℕ
 refusal_line number place = refused_word ++ space ++ decimal number ++ space ++ decimal place ++ newline
 
--- a line of two numbers and a space between them, or of the first alone
-unfoldable pub numbers_line : (both : Bool) → ℕ → ℕ → List ℕ
-numbers_line true first second = decimal first ++ space ++ decimal second ++ newline
-numbers_line false first second = decimal first ++ newline
+-- a line of one number, or of two and a space between them
+unfoldable pub numbers_line : ℕ → Option ℕ → List ℕ
+numbers_line first None = decimal first ++ newline
+numbers_line first (Some second) = decimal first ++ space ++ decimal second ++ newline
 
--- "one line an answer record: the transaction alone for a serial line, the transaction, a space and the reason for a cycle", for the first n
--- records of an answer's bytes
+-- "one line an answer record: the transaction alone for a serial line, the transaction, a space and the reason for a cycle"
+unfoldable pub record_line : (reasons : Bool) → ℕ → ℕ → List ℕ
+record_line false transaction reason = numbers_line transaction None
+record_line true transaction reason = numbers_line transaction (Some reason)
+
+-- the lines of the first n records of an answer's bytes
 unfoldable pub record_lines : (reasons : Bool) → List ℕ → ℕ → List ℕ
 record_lines reasons answer zero = []
 record_lines reasons answer (suc k) =
-    record_lines reasons answer k ++ numbers_line reasons (entry answer (k * record_size)) (entry answer (k * record_size + 1))
+    record_lines reasons answer k ++ record_line reasons (entry answer (k * record_size)) (entry answer (k * record_size + 1))
 
 -- room for the longest first line: a refusal's word, two numbers of 20 digits, which hold any number of 64 bits, two spaces and the newline
 abbrev pub first_room : ℕ

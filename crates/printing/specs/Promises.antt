@@ -1,10 +1,9 @@
--- What is promised of a text that was lent.
-use Rattle.std.specs.Prelude.{ℕ, ◌≤◌, ◌≡◌, List, length}
-use Rattle.std.proofs.lemmas.List.Edits.{sets}
+-- What is promised of a text that is given.
+use Rattle.std.specs.Prelude.{ℕ, ◌≤◌, ◌≡◌, List}
+use Rattle.arrayvec.specs.ArrayString.{ArrayString, array_string_len}
 use Rattle.printing.specs.Lines.{text_room}
 
--- these bytes stand in the front of a text that was lent, n is how many they are, there is room for them, and all other bytes keep their content
-pub record Prints (bytes old : List ℕ) (n : ℕ) (new : List ℕ) : Type 0 where
-  pub counted : n ≡ length bytes
-  pub leaves : new ≡ sets old 0 bytes
-  pub fits : n ≤ text_room
+-- the text is these bytes, and there is room for them
+pub record Prints (bytes : List ℕ) (text : ArrayString) : Type 0 where
+  pub is : text.bytes ≡ bytes
+  pub fits : array_string_len text ≤ text_room

@@ -1,5 +1,5 @@
-// The lines of an answer, put into a buffer that is lent one behind the other.
+// The lines of an answer, each a value of its own, and those of the answer records put behind a text.
 #![tactic(auto)]
 
 pub mod line;
-pub mod put;
+pub mod room;

@@ -1,21 +1,27 @@
--- The promises of this crate determine what is answered and every byte of the text lent.
+-- The promises of this crate determine what is answered, with every byte of it.
 use Prim.Native.Nat.{ℕ}
-use mathlib.Core.Path.{◌≡◌}
+use native.Mathlib.Omega.{arith}
+use mathlib.Core.Path.{◌≡◌, refl, ap}
 use mathlib.Core.List.{List}
+use Rattle.std.specs.Prelude.{Option, Some, None, option_map}
+use Rattle.arrayvec.specs.ArrayString.{ArrayString}
 use Rattle.printing.proofs.Determined.{same_text}
 use Rattle.questions.specs.Promises.{PrintsSource, PrintsEdge, PrintsAsked}
 
--- THEOREM: any two results of `source_text` for a log and a number are equal, and so are the texts left
-pub source_text_determined : (log : List ℕ) (k : ℕ) (old left right : List ℕ) (r s : ℕ)
-    → PrintsSource log k old r left → PrintsSource log k old s right → (r ≡ s) × (left ≡ right)
-source_text_determined log k old left right r s p q = same_text _ old left right r s p q
+-- THEOREM: any two texts of `source_text` for a log and a number have the same bytes
+pub source_text_determined : (log : List ℕ) (k : ℕ) (left right : ArrayString)
+    → PrintsSource log k left → PrintsSource log k right → left.bytes ≡ right.bytes
+source_text_determined log k left right p q = same_text _ left right p q
 
 -- THEOREM: and so for `edge_text`
-pub edge_text_determined : (log : List ℕ) (i j : ℕ) (old left right : List ℕ) (r s : ℕ)
-    → PrintsEdge log i j old r left → PrintsEdge log i j old s right → (r ≡ s) × (left ≡ right)
-edge_text_determined log i j old left right r s p q = same_text _ old left right r s p q
+pub edge_text_determined : (log : List ℕ) (i j : ℕ) (left right : ArrayString)
+    → PrintsEdge log i j left → PrintsEdge log i j right → left.bytes ≡ right.bytes
+edge_text_determined log i j left right p q = same_text _ left right p q
 
--- THEOREM: and so for `asked_text`, of any bytes
-pub asked_text_determined : (input old left right : List ℕ) (r s : ℕ)
-    → PrintsAsked input old r left → PrintsAsked input old s right → (r ≡ s) × (left ≡ right)
-asked_text_determined input old left right r s p q = same_text _ old left right r s p q
+-- THEOREM: any two answers of `asked_text`, of any bytes, are both none, or are both texts, which have the same bytes
+pub asked_text_determined : (input : List ℕ) (left right : Option ArrayString) → PrintsAsked input left → PrintsAsked input right
+    → option_map (λ (text : ArrayString). text.bytes) left ≡ option_map (λ (text : ArrayString). text.bytes) right
+asked_text_determined input None None p q = refl
+asked_text_determined input None (Some right) p q = absurd (omega (arith, p, q.0))
+asked_text_determined input (Some left) None p q = absurd (omega (arith, p.0, q))
+asked_text_determined input (Some left) (Some right) p q = ap Some (same_text _ left right p.1 q.1)

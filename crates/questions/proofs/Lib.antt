@@ -1,4 +1,2 @@
 pub mod ByExample
-pub mod Printed
-pub mod Asks
 pub mod Determined

@@ -1,5 +1,5 @@
 -- What is printed for the two questions: one line each.
-use Rattle.std.specs.Prelude.{ℕ, true, false, List, [], ◌∷◌, ◌++◌}
+use Rattle.std.specs.Prelude.{ℕ, Some, None, List, [], ◌∷◌, ◌++◌}
 use Rattle.std.proofs.Math.Option.{Option, none, some}
 use Rattle.histories.specs.Source.{Source}
 use Rattle.rules.specs.Answer.{Answer, gives, refused}
@@ -12,13 +12,13 @@ none_word = 110 ∷ 111 ∷ 110 ∷ 101 ∷ []
 
 -- the transaction and the place on one line, `none`, or `refused number place`
 unfoldable pub source_line : Answer (Option Source) → List ℕ
-source_line (gives (some s)) = numbers_line true s.transaction s.place
+source_line (gives (some s)) = numbers_line s.transaction (Some s.place)
 source_line (gives none) = none_word ++ newline
 source_line (refused number place) = refusal_line number place
 
--- the reason, or `refused number place`; the second number of the line is not printed
+-- the reason, or `refused number place`
 unfoldable pub edge_line : Answer ℕ → List ℕ
-edge_line (gives n) = numbers_line false n 0
+edge_line (gives n) = numbers_line n None
 edge_line (refused number place) = refusal_line number place
 
 -- what is printed for a log, of record k and of the edge from i to j

@@ -1,11 +1,11 @@
 -- Laws of the whole text: a verdict's records are where its text reads them, and what is printed is the text of what the verdict says.
-use Prim.Native.Nat.{ℕ, ◌*◌, ◌<◌, ◌≤◌}
+use Prim.Native.Nat.{ℕ, ◌*◌, ◌/◌, ◌<◌, ◌≤◌}
 use native.Mathlib.Omega.{arith}
-use mathlib.Core.Path.{◌≡◌, refl, sym, ◌∙◌, ap, subst}
+use mathlib.Core.Path.{◌≡◌, refl, sym, ◌∙◌, ap, ap₂, subst}
 use mathlib.Core.Bool.{Bool, true, false}
 use mathlib.Core.List.{List, ◌++◌}
-use lib.ListN.{length, length-append}
-use lib.Seq.{sets}
+use lib.ListN.{length, take}
+use lib.Seq.{sets, length-sets, length-take-le}
 use Rattle.rules.specs.Answer.{Answer, gives, refused}
 use Rattle.rules.specs.Record.{transactions}
 use Rattle.lines.specs.Rule.{LineOrCycle, line, cycle, members_of, length_of}
@@ -13,10 +13,11 @@ use Rattle.answers.specs.Verdict.{most_answer, record_size, entry, verdict_check
 use Rattle.answers.proofs.VerdictRows.{check_passes, enough_room, answer_refused, answer_given}
 use Rattle.answers.proofs.AnswerRecords.{records_long, ordered_fits}
 use Rattle.verdict.proofs.Written.{in_front}
-use Rattle.printing.specs.Lines.{text_room, first_line, refusal_line, record_lines}
-use Rattle.printing.proofs.Lines.{first_short, lines_short, lines_same}
+use Rattle.printing.specs.Lines.{first_line, refusal_line, record_lines}
+use Rattle.printing.proofs.Lines.{lines_same}
+use Rattle.std.proofs.lemmas.List.{get_or-take}
 use Rattle.text.specs.Text.{serial_word, cycle_word, printed_answer, printed_with, printed}
-use Rattle.text.specs.Kept.{Recorded, Lent}
+use Rattle.text.specs.Kept.{Lent}
 
 -- the text of each answer
 pub line_text : (n : ℕ) (answer : List ℕ) → printed_answer (gives (line n)) answer ≡ first_line serial_word n ++ record_lines false answer n
@@ -31,17 +32,17 @@ pub refusal_text : (number place : ℕ) (answer : List ℕ) → printed_answer (
 unfolding printed_answer
 refusal_text number place answer = refl
 
--- a first line and the lines of the records behind it fit
-pub text_short : (word : List ℕ) (n : ℕ) (reasons : Bool) (answer : List ℕ) → length word ≤ 8 → Recorded n answer → ((i : ℕ) → entry answer i < 256)
-    → length (first_line word n ++ record_lines reasons answer n) ≤ text_room
-text_short word n reasons answer l r bytes =
-    omega (
-      arith,
-      length-append (first_line word n) (record_lines reasons answer n),
-      first_short word n l (omega (arith, r.0)),
-      lines_short reasons answer bytes n,
-      r.0,
-    )
+-- the text of the records in the front of a buffer, taken as a slice
+pub front_text : (word : List ℕ) (reasons : Bool) (n : ℕ) (answer : List ℕ) → n * record_size ≤ length answer
+    → first_line word (length (take (n * record_size) answer) / record_size)
+    ++ record_lines reasons (take (n * record_size) answer) (length (take (n * record_size) answer) / record_size)
+    ≡ first_line word n ++ record_lines reasons answer n
+front_text word reasons n answer l =
+    ap₂ (λ (k m : ℕ). first_line word k ++ record_lines reasons (take (n * record_size) answer) m) count count
+    ∙ ap (λ (ls : List ℕ). first_line word n ++ ls) (lines_same reasons n _ answer (λ i k. get_or-take (n * record_size) answer i 0 k))
+  where
+    count : length (take (n * record_size) answer) / record_size ≡ n
+    count = omega (arith, length-take-le (n * record_size) answer l)
 
 -- the verdict on a log with a buffer of so many bytes
 module _ (log old : List ℕ) where
@@ -69,9 +70,12 @@ module _ (log old : List ℕ) where
   lent_given (line xs) answer e l m = (l, omega (arith, e, l, m))
   lent_given (cycle xs) answer e l m = (l, omega (arith, e, l, m))
 
-  -- the verdict's records are in the buffer
-  pub lent : (answer : List ℕ) → length answer ≡ room → Lent (how_many said) answer
-  lent answer e = by_cases (λ a. Lent (how_many a) answer) (λ n p. tt) (lent_given (line_or_cycle log) answer e)
+  -- the verdict's records are in the buffer that it leaves
+  pub lent : {a : Answer (LineOrCycle ℕ)} {answer : List ℕ} → a ≡ how_many said → answer ≡ left said → Lent a answer
+  lent {a} {answer} e f =
+      subst (λ (b : Answer (LineOrCycle ℕ)). Lent b answer) (sym e)
+      (by_cases (λ b. Lent (how_many b) answer) (λ n p. tt)
+      (lent_given (line_or_cycle log) answer (ap length f ∙ length-sets old 0 (answer_records log said))))
 
   -- the text of a line or a cycle reads only its records
   given_text : (o : LineOrCycle (List ℕ)) → length (members_of o) ≤ transactions → most_answer ≤ room
@@ -90,15 +94,17 @@ module _ (log old : List ℕ) where
           ∙ ap (λ (ls : List ℕ). first_line cycle_word (length xs) ++ ls) (lines_same true (length xs) _ _ same)
           ∙ sym (cycle_text (length xs) (answer_records log (gives (cycle xs))))
 
-  -- so the text of the verdict, with its records in the buffer, is what is printed
-  pub judged : printed_answer (how_many said) (left said) ≡ printed_with room log
+  -- so the text of the verdict, with its records in that buffer, is what is printed
+  pub judged : {a : Answer (LineOrCycle ℕ)} {answer : List ℕ} → a ≡ how_many said → answer ≡ left said
+      → printed_answer a answer ≡ printed_with room log
   unfolding printed_with
-  judged =
-      by_cases (λ a. printed_answer (how_many a) (left a) ≡ printed_answer (how_many a) (answer_records log a))
+  judged e f =
+      ap₂ printed_answer e f
+      ∙ by_cases (λ b. printed_answer (how_many b) (left b) ≡ printed_answer (how_many b) (answer_records log b))
       (λ n p. refusal_text n p (left (refused n p)) ∙ sym (refusal_text n p (answer_records log (refused n p))))
       (given_text (line_or_cycle log))
 
 -- the program's text is that of a buffer which any answer fits into
-pub program : (log : List ℕ) (room : ℕ) → room ≡ most_answer → printed_with room log ≡ printed log
+pub program : (log : List ℕ) (k : ℕ) → k ≡ most_answer → printed_with k log ≡ printed log
 unfolding printed
-program log room e = ap (λ (r : ℕ). printed_with r log) e
+program log k e = ap (λ (r : ℕ). printed_with r log) e

@@ -1,41 +1,30 @@
--- The promises of src/lib.rt determine what is answered and every byte of the buffers lent, and what is in the front of the text is what is
--- printed.
-use Prim.Native.Nat.{ℕ, ◌+◌}
+-- The promises of src/lib.rt determine every byte of what is given and of the buffer lent, and what is given is what is printed.
+use Prim.Native.Nat.{ℕ, ◌≤◌}
 use native.Mathlib.Omega.{arith}
 use mathlib.Core.Path.{◌≡◌, sym, ◌∙◌, ap}
-use mathlib.Core.List.{List, ◌++◌}
-use lib.ListN.{length, take, drop}
-use lib.Seq.{sets-eq, take_at}
+use mathlib.Core.List.{List}
+use lib.ListN.{length}
+use Rattle.arrayvec.specs.ArrayString.{ArrayString}
 use Rattle.verdict.specs.declared.answer.Verdict.{Verdict}
 use Rattle.printing.specs.Lines.{text_room}
 use Rattle.text.specs.Text.{printed}
 use Rattle.printing.proofs.Determined.{same_text}
 use Rattle.text.specs.Promises.{PrintsAnswer, PrintsJudged, PrintsLog}
 
--- THEOREM: any two results of `answer_text` for a verdict and its records are equal, and so are the texts left
-pub answer_text_determined : (verdict : Verdict) (answer old left right : List ℕ) (r s : ℕ)
-    → PrintsAnswer verdict answer old r left → PrintsAnswer verdict answer old s right → (r ≡ s) × (left ≡ right)
-answer_text_determined verdict answer old left right r s p q = same_text _ old left right r s p q
+-- THEOREM: any two texts of `answer_text` for a verdict and its records have the same bytes
+pub answer_text_determined : (verdict : Verdict) (answer : List ℕ) (left right : ArrayString)
+    → PrintsAnswer verdict answer left → PrintsAnswer verdict answer right → left.bytes ≡ right.bytes
+answer_text_determined verdict answer left right p q = same_text _ left right p q
 
--- THEOREM: any two results of `judged_text` for a log and an answer buffer are equal, and so are the texts and the answer buffers left
-pub judged_text_determined : (log answer old left right kept held : List ℕ) (r s : ℕ)
-    → PrintsJudged log answer old r left kept → PrintsJudged log answer old s right held → (r ≡ s) × (left ≡ right) × (kept ≡ held)
-judged_text_determined log answer old left right kept held r s p q =
-    let same = same_text _ old left right r s p.prints q.prints in (same.0, same.1, p.keeps ∙ sym q.keeps)
+-- THEOREM: any two texts of `judged_text` for a log and an answer buffer have the same bytes, and the answer buffers left are equal
+pub judged_text_determined : (log answer : List ℕ) (left right : ArrayString) (kept held : List ℕ)
+    → PrintsJudged log answer left kept → PrintsJudged log answer right held → (left.bytes ≡ right.bytes) × (kept ≡ held)
+judged_text_determined log answer left right kept held p q = (same_text _ left right p.prints q.prints, p.keeps ∙ sym q.keeps)
 
--- THEOREM: any two results of `log_text` for a log are equal, and so are the texts left
-pub text_determined : (log old left right : List ℕ) (r s : ℕ) → PrintsLog log old r left → PrintsLog log old s right → (r ≡ s) × (left ≡ right)
-text_determined log old left right r s p q = same_text _ old left right r s p q
+-- THEOREM: any two texts of `log_text` for a log have the same bytes
+pub text_determined : (log : List ℕ) (left right : ArrayString) → PrintsLog log left → PrintsLog log right → left.bytes ≡ right.bytes
+text_determined log left right p q = same_text _ left right p q
 
--- THEOREM: the first bytes of the text that `log_text` leaves, as many as it answers, are what is printed for the log, and behind them is
--- what was there
-pub text_printed : (log old left : List ℕ) (r : ℕ) → length old ≡ text_room → PrintsLog log old r left
-    → (take r left ≡ printed log) × (left ≡ printed log ++ drop r old)
-text_printed log old left r whole p = (ap (take r) is ∙ take_at (printed log) (drop r old) r (sym p.counted), is)
-  where
-    is : left ≡ printed log ++ drop r old
-    is =
-        let from : 0 + length (printed log) ≡ r = omega (arith, p.counted) in
-        p.leaves
-        ∙ sets-eq (printed log) old 0 (omega (arith, whole, p.counted, p.fits))
-        ∙ ap (λ (k : ℕ). printed log ++ drop k old) from
+-- THEOREM: the text that `log_text` gives is what is printed for the log, with no byte before it and none behind, and has at most 562 bytes
+pub text_printed : (log : List ℕ) (text : ArrayString) → PrintsLog log text → (text.bytes ≡ printed log) × (length (printed log) ≤ text_room)
+text_printed log text p = (p.is, omega (arith, p.fits, ap length p.is))

@@ -4,7 +4,7 @@ use mathlib.Core.Path.{◌≡◌, ap, ap₂}
 use mathlib.Core.List.{List, [], ◌∷◌}
 use Rattle.answers.specs.Marked.{MarkedLog, P2, marked_given}
 use Rattle.answers.proofs.Marked.{marked_hold}
-use Rattle.printing.specs.Lines.{digit, decimal_within, decimal, space, newline, refused_word, first_line, refusal_line, numbers_line, record_lines}
+use Rattle.printing.specs.Lines.{digit, decimal_within, decimal, space, newline, refused_word, first_line, refusal_line, numbers_line, record_line, record_lines}
 use Rattle.text.specs.Text.{serial_word, cycle_word, printed_answer, printed_with, printed}
 
 -- "cycle 2", "1 1", "2 3", with the newline behind each
@@ -24,6 +24,6 @@ printed_by_row p h = ap₂ printed_answer (ap (λ (q : MarkedLog). q.says) h) (a
 
 -- THEOREM: "For the bytes of P2 below it prints exactly" these three lines
 pub P2_printed : printed P2.log ≡ P2_lines
-unfolding digit decimal_within decimal space newline serial_word cycle_word refused_word first_line refusal_line numbers_line record_lines
+unfolding digit decimal_within decimal space newline serial_word cycle_word refused_word first_line refusal_line numbers_line record_line record_lines
     printed_answer
 P2_printed = printed_by_row P2 (ap second marked_hold)

@@ -9,7 +9,6 @@
 ghost use Rattle.std.specs.Prelude.{◌≡◌, ◌↔◌, ◌+◌, ◌≤◌, IfSome, IsSome, drop, length, take};
 ghost use Rattle.trial.specs.Stack.{header_size, log_size, room_asked};
 
-use printing::put::TEXT;
 use reading::{cleared, read_input};
 use text::judged_text;
 
@@ -66,7 +65,6 @@ fn first_log(stack: &[u8]) -> Option<Stored<'_>>
 }
 
 fn print_answer(rt: &impl Print, log: &[u8], answer: &mut [u8]) {
-    let mut text = [0u8; TEXT];
-    let n = judged_text(log, answer, &mut text);
-    let _ = rt.write_all(&text[..n]);
+    let text = judged_text(log, answer);
+    let _ = print!(rt; "{text}");
 }
