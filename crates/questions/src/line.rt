@@ -1,8 +1,8 @@
 // The answers to the two questions as they are printed: one line each.
 ghost use Rattle.questions.specs.Promises.{PrintsSource, PrintsEdge};
 
-use checked_log::source::{SourceAnswer, source_of_record};
-use edges::graph::{Edge, edge_between};
+use checked_log::source::source_of_record;
+use edges::graph::edge_between;
 use printing::line::{numbers_line, refusal_line};
 use printing::room::Line;
 
@@ -12,15 +12,13 @@ pub fn source_text(log: &[u8], k: usize) -> Line
     ensures { PrintsSource log.now k result }
 {
     match source_of_record(log, k) {
-        SourceAnswer::Of(source) => {
-            numbers_line(source.transaction as u64, Some(source.place as u64))
-        }
-        SourceAnswer::None => {
+        Ok(Some(source)) => numbers_line(source.transaction as u64, Some(source.place as u64)),
+        Ok(None) => {
             let mut line = Line::new();
             line.push_str("none\n");
             line
         }
-        SourceAnswer::Refused(why) => refusal_line(why.number(), why.place()),
+        Err(why) => refusal_line(why.number(), why.place()),
     }
 }
 
@@ -30,7 +28,7 @@ pub fn edge_text(log: &[u8], i: usize, j: usize) -> Line
     ensures { PrintsEdge log.now i j result }
 {
     match edge_between(log, i, j) {
-        Edge::Reason(n) => numbers_line(n as u64, None),
-        Edge::Refused(why) => refusal_line(why.number(), why.place()),
+        Ok(reason) => numbers_line(reason.map_or(0, Reason::number).into(), None),
+        Err(why) => refusal_line(why.number(), why.place()),
     }
 }
