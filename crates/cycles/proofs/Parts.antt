@@ -1,124 +1,37 @@
--- Laws of parts of a buffer: written one by one they stand in the other buffer as a list does, and the place of a number in a part, or of
--- its lowest, is where it is found first.
-use Prim.Native.Nat.{ℕ, suc, ◌+◌, ◌-◌, ◌<◌, ◌≤◌}
+-- Laws of places in a list, as the code finds them.
+use Prim.Native.Nat.{ℕ, ◌≤◌, min}
 use native.Mathlib.Omega.{arith}
-use native.Mathlib.Numerals.{add-one}
-use mathlib.Core.Path.{◌≡◌, refl, sym, ◌∙◌, ap, ap₂}
-use mathlib.Core.Bool.{true}
-use mathlib.Core.List.{List, [], ◌∷◌, ◌++◌}
-use native.Mathlib.Decide.{ℕ_discrete}
-use lib.ListN.{length, take, drop, get_or, set, length-drop}
-use lib.Seq.{sets, slice, sets-eq, take_at, length-slice, slice_empty, take-suc, get_or-take, get_or-drop, drop-append-le, length-take-le}
-use Rattle.lines.specs.Rule.{among, place_of, lowest_member}
-use Rattle.lines.proofs.Lists.{place_low, place_entry, place_before, sets_append}
-use Rattle.lines.proofs.Turned.{lowest_place_is}
+use mathlib.Core.Path.{◌≡◌, refl, ◌∙◌}
+use mathlib.Core.List.{List, [], ◌∷◌}
+use lib.ListN.{length}
+use Rattle.std.specs.Prelude.{◌==◌, unwrap_or, position}
+use Rattle.std.specs.List.{position_or_len, fold, reduce}
+use Rattle.std.proofs.lemmas.List.Recursion.{is_position_or_len}
+use Rattle.std.proofs.lemmas.List.Sums.{prefix_len-le-length}
+use Rattle.std.proofs.lemmas.Bool.Decides.{nat_tests}
+use Rattle.lines.specs.Rule.{place_of, lowest_member}
 
--- a part grows by one
-slice_more : (from : List ℕ) (start k : ℕ) → start ≤ k → k < length from
-    → slice start (suc k) from ≡ slice start k from ++ get_or from k 0 ∷ []
-slice_more from start k l m =
-    ap (drop start) (take-suc from k 0 m)
-    ∙ drop-append-le start (take k from) (get_or from k 0 ∷ []) (rw (length-take-le k from (omega (arith, m))) l)
+-- the place is the first where t is found, or else the length
+place_is_first : (t : ℕ) (xs : List ℕ) → place_of t xs ≡ position_or_len (λ x. x == t) xs
+unfolding place_of
+place_is_first t xs = is_position_or_len (place_of t) (λ x. x == t) refl (λ x ys. grind arith) xs
 
-pub part_none : (from to : List ℕ) (start at : ℕ) → to ≡ sets to at (slice start start from)
-part_none from to start at = sym (ap (sets to at) (slice_empty start from))
+pub place_le : (t : ℕ) (xs : List ℕ) → place_of t xs ≤ length xs
+place_le t xs = rw place_is_first (prefix_len-le-length _ xs)
 
-pub part_more : (from to : List ℕ) (start at k : ℕ) → start ≤ k → k < length from
-    → set (sets to at (slice start k from)) (at + (k - start)) (get_or from k 0) ≡ sets to at (slice start (k + 1) from)
-part_more from to start at k l m =
-    sym
-    (ap (λ (e : ℕ). sets to at (slice start e from)) (add-one k)
-    ∙ ap (sets to at) (slice_more from start k l m)
-    ∙ sets_append (slice start k from) (get_or from k 0 ∷ []) to at
-    ∙ ap (λ (e : ℕ). set (sets to at (slice start k from)) (at + e) (get_or from k 0)) (length-slice start k from (omega (arith, m))))
+pub place_found : (t : ℕ) (xs : List ℕ) → unwrap_or (position (λ x. x == t) xs) (length xs) ≡ place_of t xs
+place_found t xs = grind (arith, nat_tests, place_is_first, place_le)
 
--- what was written to the front of a buffer, and then from there to another, stands in the other
-module _ (xs blank : List ℕ) (fits : length xs ≤ length blank) where
-  front_is : slice 0 (length xs) (sets blank 0 xs) ≡ xs
-  front_is = ap (take (length xs)) (sets-eq xs blank 0 (omega (arith, fits))) ∙ take_at xs (drop (0 + length xs) blank) (length xs) refl
-
-  pub front_written : (to : List ℕ) (k : ℕ) {buffer written : List ℕ} → buffer ≡ sets blank 0 xs → written ≡ sets to 0 (slice 0 k buffer)
-      → k ≡ length xs → written ≡ sets to 0 xs
-  front_written to k is_placed is_written is_long =
-      is_written ∙ ap₂ (λ (n : ℕ) (ys : List ℕ). sets to 0 (slice 0 n ys)) is_long is_placed ∙ ap (sets to 0) front_is
-
--- entries of a part
-pub slice_entry : (from : List ℕ) (start end j : ℕ) → start + j < end → get_or (slice start end from) j 0 ≡ get_or from (start + j) 0
-slice_entry from start end j l = get_or-drop start (take end from) j 0 ∙ get_or-take end from (start + j) 0 l
-
--- the place of one who is in the buffer from `at` on
-module _ (buffer : List ℕ) (at t : ℕ) (there : among (drop at buffer) t ≡ true) where
-  abbrev place : ℕ
-  place = place_of t (drop at buffer)
-
-  pub place_in : at + place < length buffer
-  place_in = omega (arith, rw (length-drop at buffer) at (place_low t (drop at buffer) there))
-
-  -- not there yet: the place is further on
-  pub place_on : (k : ℕ) → at ≤ k → k ≤ at + place → (get_or buffer k 0 ≡ t → ⊥) → k + 1 ≤ at + place
-  place_on k l m q = go (ℕ_discrete k (at + place))
-    where
-      go : Dec (k ≡ at + place) → k + 1 ≤ at + place
-      go (yes e) = absurd (q (ap (λ (x : ℕ). get_or buffer x 0) e ∙ sym (get_or-drop at buffer place 0) ∙ place_entry t (drop at buffer) there))
-      go (no e) = omega (arith, m, e)
-
-  -- there: this is the place
-  pub place_here : (k : ℕ) → at ≤ k → k ≤ at + place → get_or buffer k 0 ≡ t → k ≡ at + place
-  place_here k l m q = go (ℕ_discrete k (at + place))
-    where
-      go : Dec (k ≡ at + place) → k ≡ at + place
-      go (yes e) = e
-      go (no e) =
-          absurd
-          (place_before t (drop at buffer) (k - at) (omega (arith, l, m, e))
-          (get_or-drop at buffer (k - at) 0 ∙ ap (λ (x : ℕ). get_or buffer x 0) (omega (arith, l)) ∙ q))
-
--- of the part from `at` to k the lowest stands at `low`, and before it nothing as low
-pub record LowestAt (buffer : List ℕ) (at low k : ℕ) : Type 0 where
-  pub from : at ≤ low
-  pub none_lower : (j : ℕ) → at ≤ j → j < k → get_or buffer low 0 ≤ get_or buffer j 0
-  pub none_before : (j : ℕ) → at ≤ j → j < low → get_or buffer low 0 < get_or buffer j 0
-
-pub lowest_start : (buffer : List ℕ) (at : ℕ) → LowestAt buffer at at at
-lowest_start buffer at =
-    record { from = omega arith; none_lower = λ j a b. absurd (omega (arith, a, b)); none_before = λ j a b. absurd (omega (arith, a, b)) }
-
--- one more looked at: it is the lowest now, or the lowest stays
-module _ (buffer : List ℕ) (at low k : ℕ) (w : LowestAt buffer at low k) where
-  pub lowest_new : at ≤ k → get_or buffer k 0 < get_or buffer low 0 → LowestAt buffer at k (k + 1)
-  lowest_new a l =
-      record { from = a; none_lower = λ j b m. go j b m (ℕ_discrete j k); none_before = λ j b m. omega (arith, l, w.none_lower j b m) }
-    where
-      go : (j : ℕ) → at ≤ j → j < k + 1 → Dec (j ≡ k) → get_or buffer k 0 ≤ get_or buffer j 0
-      go j b m (yes q) = rw q (omega arith)
-      go j b m (no q) = omega (arith, l, w.none_lower j b (omega (arith, m, q)))
-
-  pub lowest_stays : get_or buffer low 0 ≤ get_or buffer k 0 → LowestAt buffer at low (k + 1)
-  lowest_stays l = record { from = w.from; none_lower = λ j b m. go j b m (ℕ_discrete j k); none_before = w.none_before }
-    where
-      go : (j : ℕ) → at ≤ j → j < k + 1 → Dec (j ≡ k) → get_or buffer low 0 ≤ get_or buffer j 0
-      go j b m (yes q) = rw q l
-      go j b m (no q) = w.none_lower j b (omega (arith, m, q))
-
--- the whole part looked at: this is the place of its lowest
-pub part_lowest : (buffer : List ℕ) (at end low : ℕ) → end ≤ length buffer → low < end → LowestAt buffer at low end
-    → low ≡ at + place_of (lowest_member (slice at end buffer)) (slice at end buffer)
-part_lowest buffer at end low fits l w = omega (arith, w.from, lowest_place_is (slice at end buffer) (low - at) inside all before)
+-- the lowest number is the least one met
+pub least_found : (xs : List ℕ) → unwrap_or (reduce min xs) 0 ≡ lowest_member xs
+unfolding lowest_member
+least_found [] = refl
+least_found (x ∷ xs) = go x xs
   where
-    long : length (slice at end buffer) ≡ end - at
-    long = length-slice at end buffer fits
+    first : (a b : ℕ) (ys : List ℕ) → lowest_member (min a b ∷ ys) ≡ min a (lowest_member (b ∷ ys))
+    first a b [] = refl
+    first a b (y ∷ ys) = omega arith
 
-    inside : low - at < length (slice at end buffer)
-    inside = rw long (omega (arith, w.from, l))
-
-    entry : (j : ℕ) → j < end - at → get_or (slice at end buffer) j 0 ≡ get_or buffer (at + j) 0
-    entry j m = slice_entry buffer at end j (omega (arith, m))
-
-    own : get_or (slice at end buffer) (low - at) 0 ≡ get_or buffer low 0
-    own = entry (low - at) (omega (arith, w.from, l)) ∙ ap (λ (x : ℕ). get_or buffer x 0) (omega (arith, w.from))
-
-    all : (j : ℕ) → j < length (slice at end buffer) → get_or (slice at end buffer) (low - at) 0 ≤ get_or (slice at end buffer) j 0
-    all j m = let n : j < end - at = omega (arith, m, long) in rw (own, entry j n) (w.none_lower (at + j) (omega arith) (omega (arith, n)))
-
-    before : (j : ℕ) → j < low - at → get_or (slice at end buffer) (low - at) 0 < get_or (slice at end buffer) j 0
-    before j m = rw (own, entry j (omega (arith, m, l))) (w.none_before (at + j) (omega arith) (omega (arith, m)))
+    go : (a : ℕ) (ys : List ℕ) → fold min a ys ≡ lowest_member (a ∷ ys)
+    go a [] = refl
+    go a (y ∷ ys) = go (min a y) ys ∙ first a y ys

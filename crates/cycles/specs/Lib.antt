@@ -1,2 +1,1 @@
 pub mod WaitsFor
-pub mod Promises

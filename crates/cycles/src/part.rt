@@ -1,48 +1,18 @@
-// Parts of a buffer of transactions: where one stands in it, and how it is written to another.
-ghost use Rattle.std.specs.Prelude.{◌≡◌, true, ◌+◌, ◌<◌, ◌≤◌, length, drop};
-ghost use Rattle.std.proofs.lemmas.List.Edits.{sets};
-ghost use Rattle.std.proofs.Math.Seq.{slice};
-ghost use Rattle.sets.specs.Bits.{numbers};
-ghost use Rattle.lines.specs.Rule.{among, place_of, lowest_member};
+// Places in a list of transactions: where one stands in it, and where its lowest does.
+ghost use Rattle.std.specs.Prelude.{◌≡◌};
+ghost use Rattle.lines.specs.Rule.{place_of, lowest_member};
 
-use sets::NUMBERS;
-
-// Where t first stands in the buffer from `at` on.
-pub(crate) fn place_of(buffer: &[u8; NUMBERS], at: usize, t: u8) -> usize
-    requires whole { length buffer.now ≡ numbers }
-    requires there { among (drop at buffer.now) t ≡ true }
-    ensures { result ≡ at + place_of t (drop at buffer.now) }
+// How many stand before the first t: all of them, where t is not there.
+pub(crate) fn place_of(list: &[u8], t: u8) -> usize
+    ensures { result ≡ place_of t list.now }
 {
-    let mut k = at;
-    while buffer[k] != t {
-        k += 1;
-    }
-    k
+    list.iter().position(|x| *x == t).unwrap_or(list.len())
 }
 
-// Where the lowest number of the part from `at` to `end` first stands.
-pub(crate) fn place_of_lowest(buffer: &[u8; NUMBERS], at: usize, end: usize) -> usize
-    requires whole { length buffer.now ≡ numbers }
-    requires inside { (at < end) × (end ≤ numbers) }
-    ensures { result ≡ at + place_of (lowest_member (slice at end buffer.now)) (slice at end buffer.now) }
+// Where the lowest number of the list first stands.
+pub(crate) fn place_of_lowest(list: &[u8]) -> usize
+    ensures { result ≡ place_of (lowest_member list.now) list.now }
 {
-    let mut low = at;
-    for k in at..end {
-        if buffer[k] < buffer[low] {
-            low = k;
-        }
-    }
-    low
-}
-
-// Writes the part from `start` to `end` of one buffer to another, there from `at` on.
-pub fn write_part(from: &[u8; NUMBERS], start: usize, end: usize, to: &mut [u8; NUMBERS], at: usize)
-    requires whole { length from.now ≡ numbers }
-    requires inside { (start ≤ end) × (end ≤ numbers) }
-    requires room { at + end ≤ start + numbers }
-    ensures { to.new ≡ sets to.old at (slice start end from.now) }
-{
-    for k in start..end {
-        to[at + (k - start)] = from[k];
-    }
+    let lowest = list.iter().copied().min().unwrap_or(0);
+    place_of(list, lowest)
 }

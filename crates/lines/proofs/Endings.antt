@@ -1,12 +1,10 @@
 -- How the rule ends, told from those that are left. None left: it gives the line. One left: it gives the cycle of the walk from the lowest,
 -- by whatever steps go to the lowest predecessors.
 use Prim.Native.Nat.{ℕ, zero, suc, ◌<◌}
-use native.Mathlib.Omega.{arith}
 use mathlib.Core.Path.{◌≡◌, refl, sym, ◌∙◌, ap, fun_ext}
 use mathlib.Core.Bool.{Bool, true, false}
 use mathlib.Core.List.{List, [], ◌∷◌}
 use mathlib.Core.Option.{Option, none, some}
-use Rattle.sets.proofs.From.{FirstFrom}
 use Rattle.lines.specs.Rule.{among, placed, rest, lowest_predecessor, walk, to_lowest, sorted, line, cycle}
 use Rattle.lines.proofs.Chosen.{predecessor_left, lowest_is}
 use Rattle.lines.proofs.Clauses.{sorted_line, sorted_cycle, walk_zero, walk_lost, walk_ends, walk_goes}
@@ -29,20 +27,17 @@ walk_same f g p e stays (suc m) t path h = go (f t) refl (λ s k. walk_same f g 
 
 module _ (n : ℕ) (edge : ℕ → ℕ → Bool) (set left : ℕ → Bool) (same : (t : ℕ) → left t ≡ rest n edge n set t) where
   -- none left
-  pub ends_in_line : FirstFrom left 0 n n → sorted n edge set ≡ line (placed n edge n set)
-  ends_in_line none_left = sorted_line n edge set (λ t l. sym (same t) ∙ none_left.none_before t (omega arith) l)
+  pub ends_in_line : ((t : ℕ) → t < n → left t ≡ false) → sorted n edge set ≡ line (placed n edge n set)
+  ends_in_line none_left = sorted_line n edge set (λ t l. sym (same t) ∙ none_left t l)
 
   -- one left
   module _ (back : ℕ → Option ℕ) (is_lowest : (t : ℕ) → left t ≡ true → lowest_predecessor n edge left t ≡ back t)
-      (t : ℕ) (first : FirstFrom left 0 n t) (low : t < n) where
+      (t : ℕ) (low : t < n) (there : left t ≡ true) (none_before : (u : ℕ) → u < t → left u ≡ false) where
     stays : (u s : ℕ) → left u ≡ true → lowest_predecessor n edge left u ≡ some s → left s ≡ true
     stays u s h e = predecessor_left edge left u s (lowest_is edge n left u s e).precedes
 
-    there : left t ≡ true
-    there = (first.passes low).1
-
     pub ends_in_cycle : sorted n edge set ≡ cycle (to_lowest (walk back n t (t ∷ [])))
     ends_in_cycle =
-        sorted_cycle n edge set t low (λ u m. sym (same u) ∙ first.none_before u (omega arith) m) (sym (same t) ∙ there)
+        sorted_cycle n edge set t low (λ u m. sym (same u) ∙ none_before u m) (sym (same t) ∙ there)
         ∙ ap (λ (f : ℕ → Bool). cycle (to_lowest (walk (lowest_predecessor n edge f) n t (t ∷ [])))) (sym (fun_ext same))
         ∙ ap (λ (xs : List ℕ). cycle (to_lowest xs)) (walk_same (lowest_predecessor n edge left) back left is_lowest stays n t (t ∷ []) there)

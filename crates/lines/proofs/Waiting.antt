@@ -1,6 +1,6 @@
 -- Who waits for whom, told number by number: one that is left is ready where no predecessor of it is left, and else the first that has an
 -- edge to it is its lowest predecessor. So a search that goes through those left from the lowest on finds the one that is next.
-use Prim.Native.Nat.{ℕ, ◌+◌, ◌<◌}
+use Prim.Native.Nat.{ℕ, ◌+◌, ◌<◌, ◌≤◌}
 use native.Mathlib.Omega.{arith}
 use native.Mathlib.Decide.{ℕ_discrete, dec_lt}
 use mathlib.Core.Path.{◌≡◌, refl, sym}
@@ -8,7 +8,6 @@ use mathlib.Core.Bool.{Bool, true, false}
 use mathlib.Core.Option.{none, some}
 use Rattle.sets.specs.Search.{without}
 use Rattle.sets.proofs.Truth.{clash}
-use Rattle.sets.proofs.From.{FirstFrom}
 use Rattle.sets.proofs.Counts.{is_another, passed_before}
 use Rattle.lines.specs.Rule.{predecessor, ready, next, lowest_predecessor}
 use Rattle.lines.proofs.Chosen.{is_predecessor, not_predecessor, no_edge_none, is_ready, not_ready_out, not_ready_waits}
@@ -23,13 +22,13 @@ module _ (n : ℕ) (edge : ℕ → ℕ → Bool) (left : ℕ → Bool) where
   abbrev pub Tried : (ℕ → ℕ) → ℕ → Type 0
   Tried known k = (t : ℕ) → t < k → left t ≡ true → lowest_predecessor n edge left t ≡ some (known t)
 
-  -- up to the next other one that is left
-  pub free_on : (t k r : ℕ) → Free t k → FirstFrom (without left t) k n r → Free t r
-  free_on t k r free first s l = go (dec_lt s k)
+  -- and up to r, where none of the others from k to r is left
+  pub free_on : (t k r : ℕ) → Free t k → ((s : ℕ) → k ≤ s → s < r → without left t s ≡ false) → Free t r
+  free_on t k r free none_before s l = go (dec_lt s k)
     where
       go : Dec (s < k) → predecessor edge left t s ≡ false
       go (yes m) = free s m
-      go (no m) = not_predecessor edge left t s (first.none_before s (omega (arith, m)) l)
+      go (no m) = not_predecessor edge left t s (none_before s (omega (arith, m)) l)
 
   -- and past one that has no edge to t
   pub free_past : (t s : ℕ) → Free t s → edge s t ≡ false → Free t (s + 1)
@@ -56,13 +55,13 @@ module _ (n : ℕ) (edge : ℕ → ℕ → Bool) (left : ℕ → Bool) where
       go true h = waits_not_ready t (known t) (tried t l h)
       go false h = not_ready_out edge n left t h
 
-  -- up to the next one left
-  pub tried_on : (known : ℕ → ℕ) (k r : ℕ) → Tried known k → FirstFrom left k n r → Tried known r
-  tried_on known k r tried first t l h = go (dec_lt t k)
+  -- and up to r, where none from k to r is left
+  pub tried_on : (known : ℕ → ℕ) (k r : ℕ) → Tried known k → ((t : ℕ) → k ≤ t → t < r → left t ≡ false) → Tried known r
+  tried_on known k r tried none_before t l h = go (dec_lt t k)
     where
       go : Dec (t < k) → lowest_predecessor n edge left t ≡ some (known t)
       go (yes m) = tried t m h
-      go (no m) = absurd (clash (left t) h (first.none_before t (omega (arith, m)) l))
+      go (no m) = absurd (clash (left t) h (none_before t (omega (arith, m)) l))
 
   -- all before t were tried in vain, and t has no predecessor left: t is next
   pub ready_found : (known : ℕ → ℕ) (t : ℕ) → Tried known t → t < n → left t ≡ true → Free t n → next n edge left ≡ some t

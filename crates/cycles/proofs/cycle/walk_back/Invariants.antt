@@ -3,8 +3,8 @@ use Rattle.sets.specs.Bits.{numbers}
 use Rattle.cycles.proofs.WalkLoop.{OnPath}
 use Rattle.cycles.proofs.cycle.walk_back.Given as goal
 
-abbrev pub invariant-loop-at : goal.invariant-loop-at
-invariant-loop-at l = OnPath numbers l.waits l.first l.path l.at l.seen l.again
+abbrev pub invariant-loop-seen : goal.invariant-loop-seen
+invariant-loop-seen l = OnPath numbers l.waits l.first l.path l.at l.seen l.again
 
-abbrev pub decreases-loop-at : goal.decreases-loop-at
-decreases-loop-at l = l.at
+abbrev pub decreases-loop-seen : goal.decreases-loop-seen
+decreases-loop-seen l = l.at
