@@ -22,7 +22,9 @@ use Rattle.histories.specs.History.{is_by}
 use Rattle.histories.proofs.OfTransactions.{by_is, own_added, none_added}
 use Rattle.rules.specs.LogHistory.{named, history_of}
 use Rattle.rules.specs.Record.{transactions, transaction, is_commit}
-use Rattle.kept.specs.Kept.{KeptWriters, KeptCommits, KeptNames}
+use Rattle.std.proofs.lemmas.Grind.{get_or_default_zero}
+use Rattle.kept.specs.declared.Kept.{Kept}
+use Rattle.kept.specs.Kept.{KeptWriters, KeptCopies, KeptItems, KeptCommits, KeptNames}
 
 module _ (log : List ℕ) (writes : ℕ → ℕ → Bool) (wide : ℕ) where
   abbrev says_writer : ℕ → ℕ → ℕ → Bool
@@ -33,12 +35,13 @@ module _ (log : List ℕ) (writes : ℕ → ℕ → Bool) (wide : ℕ) where
   writers_start = none_below wide says_writer (holds_none wide (λ c t. refl))
 
   module _ (k : ℕ) (table : List ℕ) (w : KeptWriters log writes wide k table) where
-    -- the transaction of a record that writes d is added to the entry d
-    pub writers_add : (d t v : ℕ) → d < wide → ((c : ℕ) → writes k c ≡ eqb d c) → t ≡ transaction log k
-        → ((i : ℕ) → has v i ≡ (has (get_or table d 0) i || eqb t i)) → KeptWriters log writes wide (k + 1) (set table d v)
-    writers_add d t v l e q h =
+    -- the transaction of a record that writes d is added to the entry d, which the code reads as `get_or table d old`
+    pub writers_add : (d t v old : ℕ) → d < wide → ((c : ℕ) → writes k c ≡ eqb d c) → t ≡ transaction log k
+        → ((i : ℕ) → has v i ≡ (has (get_or table d old) i || eqb t i)) → KeptWriters log writes wide (k + 1) (set table d v)
+    writers_add d t v old l e q h =
         below_more wide says_writer k w
-        (added_store (says_writer k) table d v (eqb t) (rw w.whole l) h
+        (added_store (says_writer k) table d v (eqb t) (rw w.whole l)
+        (λ i. h i ∙ ap (λ (x : ℕ). has x i || eqb t i) (get_or_default_zero table d old (rw w.whole l)))
         (λ c i. ap₂ ◌&&◌ (by_is (history_of log) k i ∙ ap (λ (x : ℕ). eqb x i) (sym q)) (e c) ∙ and_swap (eqb t i) (eqb d c)))
 
     -- a record that writes nothing adds nothing
@@ -116,3 +119,10 @@ module _ (log : List ℕ) (k names : ℕ) (firsts : List ℕ) (w : KeptNames log
         where
           older : named log t k ≡ true
           older = sym (more t ∙ ap (λ (b : Bool). named log t k || b) (ne_eqb own t (λ r. e (sym r))) ∙ or_nothing (named log t k)) ∙ q
+
+-- in the midst of a record: the names of the records before n are kept, the writes of those before w, the commits of those before m
+pub record KeptParts (log : List ℕ) (n w m : ℕ) (kept : Kept) : Type 0 where
+  pub copies : KeptCopies log w kept.copy_writers
+  pub items : KeptItems log w kept.item_writers
+  pub names : KeptNames log n kept.named kept.firsts
+  pub commits : KeptCommits log m kept.committed

@@ -1,2 +1,3 @@
 pub mod Keeping
 pub mod TestsKept
+pub mod EndKept

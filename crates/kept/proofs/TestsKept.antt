@@ -1,10 +1,13 @@
 -- Numbers 6 to 8 at a record, by what is kept of the records before it: each test is one look at a set.
-use Prim.Native.Nat.{ℕ, ◌<◌}
+use Prim.Native.Nat.{ℕ, ◌*◌, ◌<◌}
 use mathlib.Core.Path.{◌≡◌, refl, sym, ◌∙◌, ap}
 use mathlib.Core.List.{List}
 use mathlib.Core.Bool.{Bool, true, false, not, ◌&&◌}
 use mathlib.Core.Logic.{⊎_elim}
+use lib.Dec.{eqb}
 use lib.ListN.{get_or}
+use borrow.Author.Tests.{eqb-true, eqb-false}
+use Rattle.std.proofs.lemmas.Grind.{get_or_default_zero}
 use Rattle.sets.specs.Search.{some_below}
 use Rattle.sets.specs.Bits.{has}
 use Rattle.sets.proofs.Truth.{either, and_nothing}
@@ -14,52 +17,93 @@ use Rattle.histories.specs.Faults.{after_commit, reads_unwritten, reads_past_own
 use Rattle.histories.specs.Earlier.{some_before, committed, wrote_copy, wrote_item}
 use Rattle.histories.specs.History.{is_by, writes_copy}
 use Rattle.histories.specs.Source.{shows, is_written}
-use Rattle.rules.specs.LogHistory.{history_of}
 use Rattle.histories.proofs.OfTransactions.{by_hit}
+use Rattle.rules.specs.Answer.{refused, passed}
+use Rattle.rules.specs.LogHistory.{history_of}
+use Rattle.rules.specs.Record.{items, sites, transaction, item, copy_of, is_read}
+use Rattle.rules.specs.Refusals.{read_rows, history_rows}
+use Rattle.rules.specs.Rows.{answer_of}
 use Rattle.rules.proofs.PassedLogs.{shows_all}
-use Rattle.rules.specs.Record.{transaction, item, copy_of, is_read}
-use Rattle.kept.specs.Kept.{KeptCopies, KeptItems, KeptCommits}
+use Rattle.rules.proofs.Table.{gives_6, skips_6, gives_7, gives_8, gives_none}
+use Rattle.kept.specs.declared.Kept.{Kept}
+use Rattle.kept.specs.Kept.{KeptBefore}
 
-module _ (log : List ℕ) (k : ℕ) where
+module _ (log : List ℕ) (k : ℕ) (kept : Kept) (w : KeptBefore log k kept) where
   -- 6, from the set of those that have committed
-  pub after_kept : (commits t : ℕ) → KeptCommits log k commits → t ≡ transaction log k → has commits t ≡ after_commit (history_of log) k
-  unfolding after_commit committed some_before
-  after_kept commits t w e = w.said t ∙ ap (λ (x : ℕ). committed (history_of log) x k) e
+  module _ (t : ℕ) (own : t ≡ transaction log k) where
+    after_kept : has kept.committed t ≡ after_commit (history_of log) k
+    unfolding after_commit committed some_before
+    after_kept = w.commits.said t ∙ ap (λ (x : ℕ). committed (history_of log) x k) own
 
-  module _ (table : List ℕ) (c : ℕ) (w : KeptCopies log k table) (same : c ≡ copy_of log k) (r : is_read log k ≡ true) where
+    pub refuses_6 : has kept.committed t ≡ true → answer_of (history_rows (history_of log) k) ≡ refused 6 k
+    refuses_6 h = gives_6 (history_of log) k (sym after_kept ∙ h)
+
+    pub not_6 : has kept.committed t ≡ false → answer_of (history_rows (history_of log) k) ≡ answer_of (read_rows (history_of log) k)
+    not_6 h = skips_6 (history_of log) k (sym after_kept ∙ h)
+
+  -- 7 and 8 at a read, from the sets of its copy and of its item. The code reads an entry at its own default.
+  module _ (r : is_read log k ≡ true) (c any : ℕ) (copy : (c ≡ copy_of log k) × (c < items * sites)) where
+    abbrev writers : ℕ
+    writers = get_or kept.copy_writers c any
+
+    same_copy : writers ≡ get_or kept.copy_writers c 0
+    same_copy = get_or_default_zero kept.copy_writers c any (rw w.copies.whole copy.1)
+
     -- 7: nobody has written the copy where its set is 0
     shown : (e : ℕ) → shows (history_of log) k e ≡ writes_copy (history_of log) e c
-    shown e = shows_all log k e ∙ ap (writes_copy (history_of log) e) (sym same)
+    shown e = shows_all log k e ∙ ap (writes_copy (history_of log) e) (sym copy.0)
 
-    pub unwritten_kept : get_or table c 0 ≡ 0 → reads_unwritten (history_of log) k ≡ true
+    unwritten_kept : get_or kept.copy_writers c 0 ≡ 0 → reads_unwritten (history_of log) k ≡ true
     unfolding reads_unwritten is_written
     unwritten_kept z = rw (r, some_none (shows (history_of log) k) k (λ e l. shown e ∙ nobody e l)) refl
       where
         own : (e : ℕ) → e < k → (is_by (history_of log) e (transaction log e) && writes_copy (history_of log) e c) ≡ false
         own e =
             none_some (λ i. is_by (history_of log) i (transaction log e) && writes_copy (history_of log) i c) k
-            (sym (w.said c (transaction log e)) ∙ ap (λ (x : ℕ). has x (transaction log e)) z ∙ has_zero (transaction log e)) e
+            (sym (w.copies.said c (transaction log e)) ∙ ap (λ (x : ℕ). has x (transaction log e)) z ∙ has_zero (transaction log e)) e
 
         nobody : (e : ℕ) → e < k → writes_copy (history_of log) e c ≡ false
         nobody e l = rw (by_hit (history_of log) e (transaction log e) refl) at (own e l)
 
-    pub written_kept : (get_or table c 0 ≡ 0 → ⊥) → reads_unwritten (history_of log) k ≡ false
+    written_kept : (get_or kept.copy_writers c 0 ≡ 0 → ⊥) → reads_unwritten (history_of log) k ≡ false
     unfolding reads_unwritten is_written
     written_kept f =
         ⊎_elim (λ (t : some_below k (shows (history_of log) k) ≡ true). rw (r, t) refl)
-        (λ (n : some_below k (shows (history_of log) k) ≡ false). absurd (f (no_member (get_or table c 0) (nobody n))))
+        (λ (n : some_below k (shows (history_of log) k) ≡ false). absurd (f (no_member (get_or kept.copy_writers c 0) (nobody n))))
         (either (some_below k (shows (history_of log) k)))
       where
-        nobody : some_below k (shows (history_of log) k) ≡ false → (i : ℕ) → has (get_or table c 0) i ≡ false
+        nobody : some_below k (shows (history_of log) k) ≡ false → (i : ℕ) → has (get_or kept.copy_writers c 0) i ≡ false
         nobody n i =
-            w.said c i
+            w.copies.said c i
             ∙ some_none (λ e. is_by (history_of log) e i && writes_copy (history_of log) e c) k
             (λ e l.
             ap (λ (b : Bool). is_by (history_of log) e i && b) (sym (shown e) ∙ none_some (shows (history_of log) k) k n e l)
             ∙ and_nothing (is_by (history_of log) e i))
 
+    pub refuses_7 : eqb writers 0 ≡ true → answer_of (read_rows (history_of log) k) ≡ refused 7 k
+    refuses_7 h = gives_7 (history_of log) k (unwritten_kept (sym same_copy ∙ eqb-true writers 0 h))
+
     -- 8: the item's set has the transaction, and the copy's set has it not
-    pub past_kept : (items : List ℕ) (x t : ℕ) → KeptItems log k items → x ≡ item log k → t ≡ transaction log k
-        → (has (get_or items x 0) t && not (has (get_or table c 0) t)) ≡ reads_past_own (history_of log) k
-    unfolding reads_past_own wrote_item wrote_copy some_before
-    past_kept items x t v ex et = rw (r, v.said x t, w.said c t, ex, et, same) refl
+    module _
+        (written : eqb writers 0 ≡ false) (x any_item t : ℕ) (of_item : (x ≡ item log k) × (x < items)) (own : t ≡ transaction log k)
+      where
+      abbrev item_writers : ℕ
+      item_writers = get_or kept.item_writers x any_item
+
+      past_kept : (has item_writers t && not (has writers t)) ≡ reads_past_own (history_of log) k
+      unfolding reads_past_own wrote_item wrote_copy some_before
+      past_kept =
+          rw (get_or_default_zero kept.item_writers x any_item (rw w.items.whole of_item.1), same_copy)
+          (rw (r, w.items.said x t, w.copies.said c t, of_item.0, own, copy.0) refl)
+
+      is_written_7 : reads_unwritten (history_of log) k ≡ false
+      is_written_7 = written_kept (λ z. eqb-false writers 0 written (same_copy ∙ z))
+
+      pub refuses_8 : has item_writers t ≡ true → has writers t ≡ false → answer_of (read_rows (history_of log) k) ≡ refused 8 k
+      refuses_8 a b = gives_8 (history_of log) k is_written_7 (sym past_kept ∙ rw (a, b) refl)
+
+      pub passes_others : has item_writers t ≡ false → answer_of (read_rows (history_of log) k) ≡ passed
+      passes_others a = gives_none (history_of log) k is_written_7 (sym past_kept ∙ rw a refl)
+
+      pub passes_own : has writers t ≡ true → answer_of (read_rows (history_of log) k) ≡ passed
+      passes_own b = gives_none (history_of log) k is_written_7 (sym past_kept ∙ rw b (and_nothing (has item_writers t)))

@@ -7,6 +7,7 @@ use Rattle.sets.specs.Gathered.{SetBelow, TableBelow}
 use Rattle.histories.specs.History.{is_by, writes_copy, writes_item}
 use Rattle.rules.specs.LogHistory.{named, history_of}
 use Rattle.rules.specs.Record.{transactions, items, sites, transaction, is_commit}
+use Rattle.kept.specs.declared.Kept.{Kept}
 
 -- a table that has, for each copy or each item c, the set of the transactions with a record before k that writes c. It is said
 -- of every number c and t, so also that none past the table's end is written or writes.
@@ -28,3 +29,10 @@ pub record KeptNames (log : List ℕ) (k names : ℕ) (firsts : List ℕ) : Type
   pub whole : length firsts ≡ transactions
   pub said : (t : ℕ) → has names t ≡ named log t k
   pub first : (t : ℕ) → named log t k ≡ true → first_below k (λ e. eqb (transaction log e) t) ≡ some (get_or firsts t 0)
+
+-- all of it: what is kept is what has happened before record k
+pub record KeptBefore (log : List ℕ) (k : ℕ) (kept : Kept) : Type 0 where
+  pub copies : KeptCopies log k kept.copy_writers
+  pub items : KeptItems log k kept.item_writers
+  pub names : KeptNames log k kept.named kept.firsts
+  pub commits : KeptCommits log k kept.committed

@@ -4,7 +4,7 @@ use Prim.Native.Nat.{ℕ, zero, suc, ◌+◌, ◌*◌, ◌-◌, ◌<◌, ◌≤�
 use native.Mathlib.Nat.{zero-div, div-eq_of_lt, div_self, pow-suc, mul-mod_left, one-mul, lt_of_lt_of_le}
 use native.Mathlib.Decide.{ℕ_discrete, dec_lt}
 use native.Mathlib.Omega.{arith}
-use mathlib.Core.Path.{◌≡◌, refl, sym, ◌∙◌, ap, ap₂}
+use mathlib.Core.Path.{◌≡◌, refl, sym, ◌∙◌, ap}
 use mathlib.Core.Bool.{Bool, true, false, not, ◌&&◌, ◌||◌}
 use lib.Dec.{eqb}
 use lib.Arith.{digits_mod, bin_ind}
@@ -99,7 +99,7 @@ shifted i h = shl_exact {a = 1} 1 i 64 (omega arith) (omega arith) ∙ one-mul (
 pub has_with : (x i j : ℕ) → has (bit_or x (2 ^ i)) j ≡ (has x j || eqb i j)
 has_with x i j = has_or x (2 ^ i) j ∙ ap (λ (b : Bool). has x j || b) (has_power i j)
 
--- the set with one number taken out: added first, it is in both
+-- a set without what is in another: added first, it is in both
 taken_out : (a b : Bool) → differs (a || b) b ≡ (a && not b)
 unfolding differs
 taken_out true true = refl
@@ -107,11 +107,13 @@ taken_out true false = refl
 taken_out false true = refl
 taken_out false false = refl
 
+pub has_minus : (x y j : ℕ) → has (bit_xor (bit_or x y) y) j ≡ (has x j && not (has y j))
+has_minus x y j =
+    has_xor (bit_or x y) y j ∙ ap (λ (b : Bool). differs b (has y j)) (has_or x y j) ∙ taken_out (has x j) (has y j)
+
+-- and so with one number taken out
 pub has_without : (x i j : ℕ) → has (bit_xor (bit_or x (2 ^ i)) (2 ^ i)) j ≡ (has x j && not (eqb i j))
-has_without x i j =
-    has_xor (bit_or x (2 ^ i)) (2 ^ i) j
-    ∙ ap₂ differs (has_with x i j) (has_power i j)
-    ∙ taken_out (has x j) (eqb i j)
+has_without x i j = has_minus x (2 ^ i) j ∙ ap (λ (b : Bool). has x j && not b) (has_power i j)
 
 -- a set without members is 0
 pub half_has : (x i : ℕ) → has (x / 2) i ≡ has x (suc i)

@@ -84,6 +84,15 @@ impl Set {
         }
     }
 
+    // What is in this set and not in the other: what the other has is put in first, so that turning it over takes it out.
+    pub fn minus(self, other: Set) -> Set
+        ensures { (j : ℕ) → has result j ≡ (has self j && not (has other j)) }
+    {
+        Set {
+            bits: (self.bits | other.bits) ^ other.bits,
+        }
+    }
+
     // The set where the test holds, and else nothing. What is joined so costs the same either way: of a log's records nobody can
     // foretell which are writes, and a branch that was foretold wrongly costs more than the work it saves.
     pub fn only_if(self, test: bool) -> Set

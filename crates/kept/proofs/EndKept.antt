@@ -1,0 +1,59 @@
+-- Number 9, from the sets of those named and of those that have committed.
+use Prim.Native.Nat.{ℕ, ◌<◌}
+use native.Mathlib.Omega.{arith}
+use mathlib.Core.Path.{◌≡◌, sym, ◌∙◌, ap, ap₂}
+use mathlib.Core.List.{List}
+use mathlib.Core.Bool.{Bool, true, not, ◌&&◌}
+use mathlib.Core.Option
+use mathlib.Core.Option.{Option, none, some}
+use lib.ListN.{get_or}
+use Rattle.sets.specs.Bits.{numbers, has}
+use Rattle.sets.specs.Search.{next_from}
+use Rattle.sets.proofs.Truth.{and_left}
+use Rattle.sets.proofs.From.{NextFrom, next_miss, next_hit, next_view}
+use Rattle.histories.specs.Earlier.{some_before, committed}
+use Rattle.rules.specs.Answer.{refused, passed}
+use Rattle.rules.specs.LogHistory.{in_log}
+use Rattle.rules.specs.Record.{transactions, records}
+use Rattle.rules.specs.Refusals.{never_commits, first_record, end_row, end_rows}
+use Rattle.rules.specs.Rows.{answer_of}
+use Rattle.rules.proofs.Rows.{each_passes, over_lowest}
+use Rattle.kept.specs.declared.Kept.{Kept}
+use Rattle.kept.specs.Kept.{KeptBefore}
+
+-- those that are left: named, and not committed
+module _ (kept : Kept) (left : ℕ) (is_left : (t : ℕ) → has left t ≡ (has kept.named t && not (has kept.committed t))) where
+  -- all that the search for the lowest of them says
+  abbrev Lowest : Option ℕ → Type 0
+  Lowest = NextFrom (has left) 0 transactions
+
+  module _ (t : ℕ) (e : some t ≡ next_from 0 numbers (has left)) where
+    lowest : Lowest (some t)
+    lowest = rw (sym e) at (next_view (has left) 0 numbers)
+
+    pub lowest_there : t < transactions
+    lowest_there = go lowest
+      where
+        go : Lowest (some t) → t < transactions
+        go (next_hit m l h f) = l
+
+  module _ (log : List ℕ) (w : KeptBefore log (records log) kept) where
+    never_kept : (t : ℕ) → has left t ≡ never_commits log t
+    unfolding never_commits in_log committed some_before
+    never_kept t = is_left t ∙ ap₂ (λ (a b : Bool). a && not b) (w.names.said t) (w.commits.said t)
+
+    pub refuses_9 : (t : ℕ) → some t ≡ next_from 0 numbers (has left) → answer_of (end_rows log) ≡ refused 9 (get_or kept.firsts t 0)
+    unfolding first_record
+    refuses_9 t e = go (lowest t e)
+      where
+        go : Lowest (some t) → answer_of (end_rows log) ≡ refused 9 (get_or kept.firsts t 0)
+        go (next_hit m l h f) =
+            over_lowest (end_row log) transactions t l (λ u z. sym (never_kept u) ∙ f u (omega arith) z) (sym (never_kept t) ∙ h)
+            ∙ ap (λ (o : Option ℕ). refused 9 (Option.get_or o 0))
+            (w.names.first t (sym (w.names.said t) ∙ and_left (has kept.named t) (not (has kept.committed t)) (sym (is_left t) ∙ h)))
+
+    pub all_commit : none ≡ next_from 0 numbers (has left) → answer_of (end_rows log) ≡ passed
+    all_commit e = go (rw (sym e) at (next_view (has left) 0 numbers))
+      where
+        go : Lowest none → answer_of (end_rows log) ≡ passed
+        go (next_miss f) = each_passes (end_row log) transactions (λ t l. sym (never_kept t) ∙ f t (omega arith) l)
