@@ -8,17 +8,16 @@ use mathlib.Core.Bool.{Bool, true, false}
 use mathlib.Core.List.{List}
 use mathlib.Core.Option.{some, some-ne-none}
 use lib.ListN.{get_or, set}
+use Rattle.std.specs.Prelude.{Some, None}
 use Rattle.sets.specs.Bits.{numbers}
 use Rattle.sets.specs.Search.{without}
-use Rattle.sets.proofs.From.{FirstFrom}
 use Rattle.lines.specs.Rule.{next, lowest_predecessor}
 use Rattle.lines.specs.Lines.{Below}
 use Rattle.lines.proofs.Waiting.{Free, Tried, free_on, free_past, first_is_lowest, tried_on, ready_found, none_found}
 use Rattle.cycles.specs.WaitsFor.{Kept}
 use Rattle.sort.specs.Searched.{Searched}
 use Rattle.sort.specs.Promises.{FindsReady}
-use Rattle.sort.specs.declared.search.Ready.TheVariants.{At, None}
-use Rattle.sort.proofs.Waits.{kept_in, kept_store, searched_store, tried_store}
+use Rattle.sort.proofs.Waits.{FirstFrom, kept_in, kept_store, searched_store, tried_store}
 
 module _ (edge : ℕ → ℕ → Bool) (left : ℕ → Bool) where
   -- each one left below k has been tried in vain
@@ -27,82 +26,77 @@ module _ (edge : ℕ → ℕ → Bool) (left : ℕ → Bool) where
     pub searched : Searched edge left waits
     pub in_vain : Tried numbers edge left (kept_in waits) k
 
-  -- t is being tried: no predecessor of it below s is left, and s is another one that is left, or the end of the numbers
-  pub record Looking (waits : List ℕ) (t s : ℕ) : Type 0 where
-    pub within : s ≤ numbers
-    pub is_other : s < numbers → without left t s ≡ true
-    pub free : Free numbers edge left t s
+  -- t is being tried: no predecessor of it below `from` is left
+  pub record Looking (waits : List ℕ) (t from : ℕ) : Type 0 where
+    pub free : Free numbers edge left t from
     pub trying : Trying waits t
 
   pub search_start : (waits : List ℕ) → Kept waits → Searched edge left waits → Trying waits 0
   search_start waits kept searched = record { kept = kept; searched = searched; in_vain = λ t l h. absurd (omega (arith, l)) }
 
-  module _ (waits : List ℕ) (k : ℕ) (trying : Trying waits k) where
+  module _ {waits : List ℕ} {k : ℕ} (trying : Trying waits k) where
     -- t is the next one left: none between k and t needs to be tried, and below the one kept for t none is to be looked for
-    pub look_start : (t s : ℕ) → FirstFrom left k numbers t → FirstFrom (without left t) (get_or waits t 0) numbers s → Looking waits t s
-    look_start t s next_left next_other =
+    pub look_start : {t : ℕ} → FirstFrom left k t → Looking waits t (get_or waits t 0)
+    look_start {t} next_left =
         record {
-          within = next_other.within;
-          is_other = λ l. (next_other.passes l).1;
-          free = free_on numbers edge left t (get_or waits t 0) s (trying.searched t) next_other;
+          free = trying.searched t;
           trying =
               record {
                 kept = trying.kept;
                 searched = trying.searched;
-                in_vain = tried_on numbers edge left (kept_in waits) k t trying.in_vain next_left;
+                in_vain = tried_on numbers edge left (kept_in waits) k t trying.in_vain next_left.none_before;
               };
         }
 
     -- none is left from k on: all wait
-    pub finds_none : Below numbers left → FirstFrom left k numbers numbers → FindsReady edge left None waits
-    finds_none low none_left =
+    pub finds_none : ((u : ℕ) → k ≤ u → u < numbers → left u ≡ false) → FindsReady edge left None waits
+    finds_none none_left =
         record {
           says = sym (none_found numbers edge left (kept_in waits) all);
           kept = trying.kept;
           searched = trying.searched;
-          blocked = λ e t h. all t (low t h) h;
+          blocked = λ e. all;
         }
       where
         all : Tried numbers edge left (kept_in waits) numbers
         all = tried_on numbers edge left (kept_in waits) k numbers trying.in_vain none_left
 
-  module _ (waits : List ℕ) (t s : ℕ) (looking : Looking waits t s) where
-    -- s has no edge to t
-    pub look_on : (r : ℕ) → edge s t ≡ false → FirstFrom (without left t) (s + 1) numbers r → Looking waits t r
-    look_on r no_edge next_other =
-        record {
-          within = next_other.within;
-          is_other = λ l. (next_other.passes l).1;
-          free = free_on numbers edge left t (s + 1) r (free_past numbers edge left t s looking.free no_edge) next_other;
-          trying = looking.trying;
-        }
+  module _ {waits : List ℕ} {t from : ℕ} (looking : Looking waits t from) where
+    -- s is the next other one that is left
+    module _ {s : ℕ} (next_other : FirstFrom (without left t) from s) where
+      free_before : Free numbers edge left t s
+      free_before = free_on numbers edge left t from s looking.free next_other.none_before
 
-    module _ (t_low : t < numbers) where
-      -- s has one: t waits for s, and was tried in vain
-      pub tried_one : s < numbers → edge s t ≡ true → Trying (set waits t s) (t + 1)
-      tried_one s_low is_edge =
+      -- it has no edge to t
+      pub look_on : edge s t ≡ false → Looking waits t (s + 1)
+      look_on no_edge = record { free = free_past numbers edge left t s free_before no_edge; trying = looking.trying }
+
+      -- it has one: t waits for s, and was tried in vain
+      pub tried_one : t < numbers → edge s t ≡ true → Trying (set waits t s) (t + 1)
+      tried_one t_low is_edge =
           let old = looking.trying in
           record {
-            kept = kept_store edge left waits t s old.kept t_low s_low;
-            searched = searched_store edge left waits t s old.kept t_low s_low old.searched looking.free;
-            in_vain = tried_store edge left waits t s old.kept t_low s_low old.in_vain is_lowest;
+            kept = kept_store edge left waits t s old.kept t_low next_other.below;
+            searched = searched_store edge left waits t s old.kept t_low next_other.below old.searched free_before;
+            in_vain = tried_store edge left waits t s old.kept t_low next_other.below old.in_vain is_lowest;
           }
         where
           is_lowest : lowest_predecessor numbers edge left t ≡ some s
-          is_lowest = first_is_lowest numbers edge left t s looking.free s_low (looking.is_other s_low) is_edge
+          is_lowest = first_is_lowest numbers edge left t s free_before next_other.below next_other.passes is_edge
 
-      -- there is no other to look at: t is ready, and all before it wait
-      pub finds_one : left t ≡ true → numbers ≤ s → FindsReady edge left (At t) waits
-      finds_one is_left over =
-          record {
-            says = sym is_next;
-            kept = looking.trying.kept;
-            searched = looking.trying.searched;
-            blocked = λ e. absurd (some-ne-none t (sym is_next ∙ e));
-          }
-        where
-          free : Free numbers edge left t numbers
-          free u l = looking.free u (omega (arith, l, over))
+    -- there is no other to look at: t is ready, and all before it wait
+    pub finds_one : t < numbers → left t ≡ true → ((s : ℕ) → from ≤ s → s < numbers → without left t s ≡ false)
+        → FindsReady edge left (Some t) waits
+    finds_one t_low is_left no_other =
+        record {
+          says = sym is_next;
+          kept = looking.trying.kept;
+          searched = looking.trying.searched;
+          blocked = λ e. absurd (some-ne-none t (sym is_next ∙ e));
+        }
+      where
+        free : Free numbers edge left t numbers
+        free = free_on numbers edge left t from numbers looking.free no_other
 
-          is_next : next numbers edge left ≡ some t
-          is_next = ready_found numbers edge left (kept_in waits) t looking.trying.in_vain t_low is_left free
+        is_next : next numbers edge left ≡ some t
+        is_next = ready_found numbers edge left (kept_in waits) t looking.trying.in_vain t_low is_left free

@@ -2,18 +2,18 @@
 -- fewer. And what the sets' own functions find and take out, as the rule has it.
 use Prim.Native.Nat.{ℕ, ◌+◌, ◌<◌, ◌≤◌}
 use native.Mathlib.Omega.{arith}
-use native.Mathlib.Decide.{ℕ_discrete, dec_lt}
+use native.Mathlib.Decide.{ℕ_discrete}
 use mathlib.Core.Path.{◌≡◌, sym, ◌∙◌, ap, subst, fun_ext}
 use mathlib.Core.Bool.{Bool, true, false, ◌&&◌, not}
 use mathlib.Core.List.{List}
-use mathlib.Core.Option.{some}
+use mathlib.Core.Option.{Option, none, some, some-ne-none, some-injective}
 use lib.Dec.{eqb}
 use lib.ListN.{length, get_or, set, length-set}
 use lib.Seq.{get_or-set_same, get_or-set_other}
 use Rattle.sets.specs.Bits.{numbers, has}
-use Rattle.sets.specs.Search.{first_from, without}
+use Rattle.sets.specs.Search.{next_from, without}
 use Rattle.sets.proofs.Truth.{clash, refuted}
-use Rattle.sets.proofs.From.{FirstFrom, first_from_view}
+use Rattle.sets.proofs.From.{NextFrom, next_miss, next_hit, next_view}
 use Rattle.sets.proofs.Counts.{without_said}
 use Rattle.lines.specs.Rule.{predecessor, lowest_predecessor}
 use Rattle.cycles.specs.WaitsFor.{Kept}
@@ -29,20 +29,34 @@ taken left fewer t h = fun_ext (λ s. h s ∙ without_said (has left) t s)
 abbrev pub kept_in : List ℕ → ℕ → ℕ
 kept_in waits t = get_or waits t 0
 
--- what a search from k on found
-pub found_from : (p : ℕ → Bool) (k r : ℕ) → r ≡ first_from k numbers p → FirstFrom p k numbers r
-found_from p k r e = subst (FirstFrom p k numbers) (sym e) (first_from_view p k numbers)
+-- what a search from k on found: the first there that passes
+pub record FirstFrom (p : ℕ → Bool) (k r : ℕ) : Type 0 where
+  pub from : k ≤ r
+  pub below : r < numbers
+  pub passes : p r ≡ true
+  pub none_before : (e : ℕ) → k ≤ e → e < r → p e ≡ false
 
--- it is not past the end of the numbers, and not below k
-pub first_within : (k n : ℕ) (p : ℕ → Bool) → first_from k n p ≤ n
-first_within k n p = (first_from_view p k n).within
-
-pub first_above : (k n : ℕ) (p : ℕ → Bool) → k ≤ n → k ≤ first_from k n p
-first_above k n p l = go (dec_lt (first_from k n p) n)
+pub first_found : (p : ℕ → Bool) (k : ℕ) {r : ℕ} → some r ≡ next_from k numbers p → FirstFrom p k r
+first_found p k {r} e = go (next_from k numbers p) (next_view p k numbers) (sym e)
   where
-    go : Dec (first_from k n p < n) → k ≤ first_from k n p
-    go (yes below) = ((first_from_view p k n).passes below).0
-    go (no over) = omega (arith, l, over)
+    go : (o : Option ℕ) → NextFrom p k numbers o → o ≡ some r → FirstFrom p k r
+    go none (next_miss f) q = absurd (some-ne-none r (sym q))
+    go (some q) (next_hit m l h f) e =
+        subst (FirstFrom p k) (some-injective q r e) record { from = m; below = l; passes = h; none_before = f }
+
+pub found_after : (p : ℕ → Bool) (k r : ℕ) → some r ≡ next_from k numbers p → k ≤ r
+found_after p k r e = (first_found p k e).from
+
+pub found_low : (p : ℕ → Bool) (k r : ℕ) → some r ≡ next_from k numbers p → r < numbers
+found_low p k r e = (first_found p k e).below
+
+-- or nothing, where none does
+pub none_found_from : (p : ℕ → Bool) (k : ℕ) → none ≡ next_from k numbers p → (e : ℕ) → k ≤ e → e < numbers → p e ≡ false
+none_found_from p k e = go (next_from k numbers p) (next_view p k numbers) (sym e)
+  where
+    go : (o : Option ℕ) → NextFrom p k numbers o → o ≡ none → (e : ℕ) → k ≤ e → e < numbers → p e ≡ false
+    go none (next_miss f) q = f
+    go (some r) (next_hit m l h f) q = absurd (some-ne-none r q)
 
 module _ (edge : ℕ → ℕ → Bool) (left : ℕ → Bool) where
   -- the one found is kept

@@ -9,11 +9,10 @@ mod search;
 
 use crate::line::place_all;
 use cycles::cycle::write_cycle;
-use cycles::part::write_part;
-use sets::NUMBERS;
+use sets::{NUMBERS, Set};
 
 // A line or a cycle, and how many members it has. They are in the buffer that was lent.
-#[derive(Clone, Copy)]
+#[derive(Clone, Copy, Debug, PartialEq, Eq)]
 pub enum Sorted {
     Line(usize),
     Cycle(usize),
@@ -23,17 +22,18 @@ pub enum Sorted {
 // table is the edge from i to j. Any table and any set may be given: edges from a transaction to itself, and to or from transactions
 // outside the set, are ignored. The members are written to the front of the buffer, a cycle's along the edges from its lowest number; all
 // other bytes keep their content, since a line is written only when it is whole.
-pub fn sort(table: &[u64; NUMBERS], set: u64, members: &mut [u8; NUMBERS]) -> Sorted
+#[tactic(auto, using(crate::proofs::Waits::found_low))]
+pub fn sort(table: &[Set; NUMBERS], set: Set, members: &mut [u8; NUMBERS]) -> Sorted
     ensures { SortsTable table.now set members.old result members.new }
 {
     let mut waits = [0u8; NUMBERS];
-    let mut line = [0u8; NUMBERS];
-    let placed = place_all(table, set, &mut waits, &mut line);
-    let count = placed.count;
-    let first = sets::member_from(placed.left, 0);
-    if first == NUMBERS {
-        write_part(&line, 0, count, members, 0);
-        return Sorted::Line(count);
+    let placed = place_all(table, set, &mut waits);
+    match placed.left.next_from(0) {
+        None => {
+            let count = placed.line.len();
+            members[..count].copy_from_slice(&placed.line);
+            Sorted::Line(count)
+        }
+        Some(first) => Sorted::Cycle(write_cycle(&waits, first, members)),
     }
-    Sorted::Cycle(write_cycle(&waits, first, members))
 }

@@ -6,10 +6,10 @@ use Rattle.sort.proofs.SearchLoop.{Trying, Looking}
 use Rattle.sort.proofs.search.lowest_ready.Given as goal
 
 abbrev pub invariant-loop-s : goal.invariant-loop-s
-invariant-loop-s l = Looking (in_row l.table) (has l.left) l.waits l.t l.s
+invariant-loop-s l = Looking (in_row l.table) (has l.left) l.waits l.t l.from
 
 abbrev pub decreases-loop-s : goal.decreases-loop-s
-decreases-loop-s l = numbers - l.s
+decreases-loop-s l = numbers - l.from
 
 abbrev pub invariant-search : goal.invariant-search
 invariant-search l = Trying (in_row l.table) (has l.left) l.waits l.tried
