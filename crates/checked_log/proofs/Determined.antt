@@ -4,18 +4,16 @@ use native.Mathlib.Omega.{arith}
 use mathlib.Core.Path.{◌≡◌, refl, sym, ◌∙◌, ap, ap₂}
 use mathlib.Core.List.{List}
 use mathlib.Core.Option.{Option, none, some}
+use Rattle.std.specs.Prelude.{Result, Ok, Err, Some, None, Option as Found}
+use Rattle.sets.specs.Search.{found_says}
 use Rattle.histories.specs.Source.{Source}
 use Rattle.rules.specs.Answer.{Answer, gives, refused}
 use Rattle.rules.proofs.Answers.{said_number, said_place}
-use Rattle.refusals.specs.declared.refusal.Checked.{Checked}
+use Rattle.refusals.specs.declared.refusal.Refusal.{Refusal}
 use Rattle.refusals.proofs.Determined.{same_refusal, no_zero, same_checked}
-use Rattle.checked_log.specs.Numbers.{source_says, found_says}
+use Rattle.checked_log.specs.Numbers.{source_says}
 use Rattle.checked_log.specs.Promises.{ChecksLength, ChecksContent, ChecksLog, FindsSource, TellsSource}
-use Rattle.checked_log.specs.declared.source.Found.{Found}
-use Rattle.checked_log.specs.declared.source.Found.TheVariants.{At, None as NoneFound}
 use Rattle.checked_log.specs.declared.source.Source.{Source as Told}
-use Rattle.checked_log.specs.declared.source.SourceAnswer.{SourceAnswer}
-use Rattle.checked_log.specs.declared.source.SourceAnswer.TheVariants.{Of, None, Refused as SourceRefused}
 
 -- what a source's answer holds: its transaction and its place, each with one added, or 0 for none
 abbrev said_transaction : Answer (Option Source) → ℕ
@@ -31,40 +29,40 @@ said_record (refused n p) = 0
 abbrev two : (t place : ℕ) → Told
 two t place = record { transaction = t; place = place }
 
-pub same_source : (a b : SourceAnswer) → source_says a ≡ source_says b → a ≡ b
-same_source (Of s) (Of t) e =
+pub same_source : (a b : Result (Found Told) Refusal) → source_says a ≡ source_says b → a ≡ b
+same_source (Ok (Some s)) (Ok (Some t)) e =
     let q : suc s.transaction ≡ suc t.transaction = ap said_transaction e in
     let r : suc s.place ≡ suc t.place = ap said_record e in
-    ap Of (ap₂ two (omega arith) (omega arith))
-same_source (Of s) None e = let q : suc s.place ≡ 0 = ap said_record e in absurd (omega arith)
-same_source (Of s) (SourceRefused r) e = absurd (no_zero r (sym (ap said_number e)))
-same_source None (Of t) e = let q : 0 ≡ suc t.place = ap said_record e in absurd (omega arith)
-same_source None None e = refl
-same_source None (SourceRefused s) e = absurd (no_zero s (sym (ap said_number e)))
-same_source (SourceRefused r) (Of t) e = absurd (no_zero r (ap said_number e))
-same_source (SourceRefused r) None e = absurd (no_zero r (ap said_number e))
-same_source (SourceRefused r) (SourceRefused s) e = ap SourceRefused (same_refusal r s (ap said_number e) (ap said_place e))
+    ap (λ (x : Told). Ok (Some x)) (ap₂ two (omega arith) (omega arith))
+same_source (Ok (Some s)) (Ok None) e = let q : suc s.place ≡ 0 = ap said_record e in absurd (omega arith)
+same_source (Ok (Some s)) (Err r) e = absurd (no_zero r (sym (ap said_number e)))
+same_source (Ok None) (Ok (Some t)) e = let q : 0 ≡ suc t.place = ap said_record e in absurd (omega arith)
+same_source (Ok None) (Ok None) e = refl
+same_source (Ok None) (Err s) e = absurd (no_zero s (sym (ap said_number e)))
+same_source (Err r) (Ok (Some t)) e = absurd (no_zero r (ap said_number e))
+same_source (Err r) (Ok None) e = absurd (no_zero r (ap said_number e))
+same_source (Err r) (Err s) e = ap Err (same_refusal r s (ap said_number e) (ap said_place e))
 
-pub same_found : (a b : Found) → found_says a ≡ found_says b → a ≡ b
-same_found (At e) (At f) h = let q : e ≡ f = cc in ap At q
-same_found (At e) NoneFound h = let z : ◌≡◌ {A = ℕ} 0 1 = cc in absurd (omega arith)
-same_found NoneFound (At f) h = let z : ◌≡◌ {A = ℕ} 0 1 = cc in absurd (omega arith)
-same_found NoneFound NoneFound h = refl
+pub same_found : (a b : Found ℕ) → found_says a ≡ found_says b → a ≡ b
+same_found (Some e) (Some f) h = let q : e ≡ f = cc in ap Some q
+same_found (Some e) None h = let z : ◌≡◌ {A = ℕ} 0 1 = cc in absurd (omega arith)
+same_found None (Some f) h = let z : ◌≡◌ {A = ℕ} 0 1 = cc in absurd (omega arith)
+same_found None None h = refl
 
 -- THEOREM: any two answers that `check` promises for a log are equal; and so for its halves
-pub check_determined : (log : List ℕ) (a b : Checked) → ChecksLog log a → ChecksLog log b → a ≡ b
+pub check_determined : (log : List ℕ) (a b : Result (Unit {0}) Refusal) → ChecksLog log a → ChecksLog log b → a ≡ b
 check_determined log a b p q = same_checked a b (p ∙ sym q)
 
-pub length_determined : (log : List ℕ) (a b : Checked) → ChecksLength log a → ChecksLength log b → a ≡ b
+pub length_determined : (log : List ℕ) (a b : Result (Unit {0}) Refusal) → ChecksLength log a → ChecksLength log b → a ≡ b
 length_determined log a b p q = same_checked a b (p ∙ sym q)
 
-pub content_determined : (log : List ℕ) (a b : Checked) → ChecksContent log a → ChecksContent log b → a ≡ b
+pub content_determined : (log : List ℕ) (a b : Result (Unit {0}) Refusal) → ChecksContent log a → ChecksContent log b → a ≡ b
 content_determined log a b p q = same_checked a b (p ∙ sym q)
 
 -- THEOREM: any two answers that `source_of_record` promises for a log and a number are equal
-pub source_determined : (log : List ℕ) (k : ℕ) (a b : SourceAnswer) → TellsSource log k a → TellsSource log k b → a ≡ b
+pub source_determined : (log : List ℕ) (k : ℕ) (a b : Result (Found Told) Refusal) → TellsSource log k a → TellsSource log k b → a ≡ b
 source_determined log k a b p q = same_source a b (p ∙ sym q)
 
 -- THEOREM: any two answers that `source_record` promises for a log and a record are equal
-pub found_determined : (log : List ℕ) (k : ℕ) (a b : Found) → FindsSource log k a → FindsSource log k b → a ≡ b
+pub found_determined : (log : List ℕ) (k : ℕ) (a b : Found ℕ) → FindsSource log k a → FindsSource log k b → a ≡ b
 found_determined log k a b p q = same_found a b (p ∙ sym q)

@@ -1,2 +1,1 @@
-pub mod EndKept
 pub mod Determined

@@ -87,23 +87,23 @@ module _ (log : List ℕ) (k : ℕ) (kept : Kept) (w : KeptBefore log k kept) wh
     module _
         (written : eqb writers 0 ≡ false) (x any_item t : ℕ) (of_item : (x ≡ item log k) × (x < items)) (own : t ≡ transaction log k)
       where
-      abbrev item_writers : ℕ
-      item_writers = get_or kept.item_writers x any_item
+        abbrev item_writers : ℕ
+        item_writers = get_or kept.item_writers x any_item
 
-      past_kept : (has item_writers t && not (has writers t)) ≡ reads_past_own (history_of log) k
-      unfolding reads_past_own wrote_item wrote_copy some_before
-      past_kept =
-          rw (get_or_default_zero kept.item_writers x any_item (rw w.items.whole of_item.1), same_copy)
-          (rw (r, w.items.said x t, w.copies.said c t, of_item.0, own, copy.0) refl)
+        past_kept : (has item_writers t && not (has writers t)) ≡ reads_past_own (history_of log) k
+        unfolding reads_past_own wrote_item wrote_copy some_before
+        past_kept =
+            rw (get_or_default_zero kept.item_writers x any_item (rw w.items.whole of_item.1), same_copy)
+            (rw (r, w.items.said x t, w.copies.said c t, of_item.0, own, copy.0) refl)
 
-      is_written_7 : reads_unwritten (history_of log) k ≡ false
-      is_written_7 = written_kept (λ z. eqb-false writers 0 written (same_copy ∙ z))
+        is_written_7 : reads_unwritten (history_of log) k ≡ false
+        is_written_7 = written_kept (λ z. eqb-false writers 0 written (same_copy ∙ z))
 
-      pub refuses_8 : has item_writers t ≡ true → has writers t ≡ false → answer_of (read_rows (history_of log) k) ≡ refused 8 k
-      refuses_8 a b = gives_8 (history_of log) k is_written_7 (sym past_kept ∙ rw (a, b) refl)
+        pub refuses_8 : has item_writers t ≡ true → has writers t ≡ false → answer_of (read_rows (history_of log) k) ≡ refused 8 k
+        refuses_8 a b = gives_8 (history_of log) k is_written_7 (sym past_kept ∙ rw (a, b) refl)
 
-      pub passes_others : has item_writers t ≡ false → answer_of (read_rows (history_of log) k) ≡ passed
-      passes_others a = gives_none (history_of log) k is_written_7 (sym past_kept ∙ rw a refl)
+        pub passes_others : has item_writers t ≡ false → answer_of (read_rows (history_of log) k) ≡ passed
+        passes_others a = gives_none (history_of log) k is_written_7 (sym past_kept ∙ rw a refl)
 
-      pub passes_own : has writers t ≡ true → answer_of (read_rows (history_of log) k) ≡ passed
-      passes_own b = gives_none (history_of log) k is_written_7 (sym past_kept ∙ rw b (and_nothing (has item_writers t)))
+        pub passes_own : has writers t ≡ true → answer_of (read_rows (history_of log) k) ≡ passed
+        passes_own b = gives_none (history_of log) k is_written_7 (sym past_kept ∙ rw b (and_nothing (has item_writers t)))

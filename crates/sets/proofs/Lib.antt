@@ -7,3 +7,4 @@ pub mod Gathered
 pub mod Counts
 pub mod Lowest
 pub mod Paths
+pub mod WalkBack
