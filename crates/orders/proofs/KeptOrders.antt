@@ -20,7 +20,8 @@ use Rattle.rules.specs.Passes.{Passes}
 use Rattle.rules.proofs.PassedLogs.{in_log_hit}
 use Rattle.tables.specs.Kept.{LaterRows}
 use Rattle.tables.proofs.Adding.{sets_whole, rows_whole}
-use Rattle.orders.specs.Kept.{LaterItemWriters, LaterCommits, is_earlier_commit, LaterOrders, KeptOrder}
+use Rattle.orders.specs.declared.order.WriteOrder.{WriteOrder}
+use Rattle.orders.specs.Kept.{LaterItemWriters, LaterCommits, is_earlier_commit, KeptFrom, KeptOrder}
 
 module _ (log : List ℕ) where
   abbrev says_commit : ℕ → ℕ → Bool
@@ -52,21 +53,21 @@ module _ (log : List ℕ) where
 
   module _ (sound : Passes log) where
     -- .. since nobody commits twice
-    pub order_whole : {writers after : List ℕ} → LaterItemWriters log 0 writers → LaterOrders log 0 after → KeptOrder log writers after
+    pub order_whole : {order : WriteOrder} {committed : ℕ} → KeptFrom log 0 order committed → KeptOrder log order
     unfolding is_earlier_commit
-    order_whole v w =
-        let whole = rows_whole log (is_earlier_commit log) w in
+    order_whole w =
+        let whole = rows_whole log (is_earlier_commit log) w.orders in
         record {
-          item_writers = items_whole v;
+          item_writers = items_whole w.writers;
           whole = whole.whole;
           in_order = λ x s j. whole.said s j ∙ order_by_commits (history_of log) sound.commits_once x s j;
         }
 
     -- who is in the log commits
-    pub members_whole : {commits : ℕ} → LaterCommits log 0 commits → (t : ℕ) → has commits t ≡ in_log log t
+    pub members_whole : {order : WriteOrder} {committed : ℕ} → KeptFrom log 0 order committed → (t : ℕ) → has committed t ≡ in_log log t
     unfolding some_before
     members_whole w t =
-        (set_all_from says_commit (records log) w).said t
+        (set_all_from says_commit (records log) w.commits).said t
         ∙ same_truth (some_before (history_of log) (records log) t (is_commit log)) (in_log log t) ahead back
       where
         ahead : some_before (history_of log) (records log) t (is_commit log) ≡ true → in_log log t ≡ true

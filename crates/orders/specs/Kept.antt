@@ -8,6 +8,7 @@ use Rattle.histories.specs.Order.{comes_before}
 use Rattle.rules.specs.LogHistory.{history_of}
 use Rattle.rules.specs.Record.{transactions, items, records, is_commit}
 use Rattle.tables.specs.Kept.{LaterSets, LaterRows}
+use Rattle.orders.specs.declared.order.WriteOrder.{WriteOrder}
 
 abbrev pub LaterItemWriters : List ℕ → ℕ → List ℕ → Type 0
 LaterItemWriters log = LaterSets log (writes_item (history_of log)) items
@@ -23,8 +24,14 @@ is_earlier_commit log d j = is_commit log d && some_after (history_of log) d j (
 abbrev pub LaterOrders : List ℕ → ℕ → List ℕ → Type 0
 LaterOrders log = LaterRows log (is_earlier_commit log)
 
+-- all of it
+pub record KeptFrom (log : List ℕ) (k : ℕ) (order : WriteOrder) (committed : ℕ) : Type 0 where
+  pub writers : LaterItemWriters log k order.writers
+  pub commits : LaterCommits log k committed
+  pub orders : LaterOrders log k order.after
+
 -- once the whole log is read: the writers of each item, and who comes after each transaction in a write order
-pub record KeptOrder (log writers after : List ℕ) : Type 0 where
-  pub item_writers : Holds items (λ x t. writes (history_of log) t x) writers
-  pub whole : length after ≡ transactions
-  pub in_order : (x s j : ℕ) → in_row after s j ≡ comes_before (history_of log) x s j
+pub record KeptOrder (log : List ℕ) (order : WriteOrder) : Type 0 where
+  pub item_writers : Holds items (λ x t. writes (history_of log) t x) order.writers
+  pub whole : length order.after ≡ transactions
+  pub in_order : (x s j : ℕ) → in_row order.after s j ≡ comes_before (history_of log) x s j

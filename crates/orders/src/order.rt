@@ -1,66 +1,72 @@
-// The write order of an item: what is kept of it, and the writers that come after a given one.
-ghost use Rattle.std.specs.Prelude.{◌≡◌, ℕ, ◌+◌, ◌<◌};
+// The write orders of a log's items: what is kept of them, and the writers of an item that come after a given one.
+ghost use Rattle.std.specs.Prelude.{◌≡◌, ℕ, ◌+◌, ◌<◌, List};
 ghost use Rattle.sets.specs.Bits.{has};
 ghost use Rattle.histories.specs.Order.{writer_after};
 ghost use Rattle.rules.specs.LogHistory.{in_log, history_of};
-ghost use Rattle.rules.specs.Record.{Within, transactions, items, item};
+ghost use Rattle.rules.specs.Record.{Within, records, transactions, item};
 ghost use Rattle.rules.specs.Passes.{Passes};
-ghost use Rattle.tables.specs.Kept.{Empty};
-ghost use Rattle.orders.specs.Kept.{LaterCommits, LaterOrders, KeptOrder};
+ghost use Rattle.orders.specs.Kept.{KeptFrom, KeptOrder};
 
-use format::record::{COMMIT, Copy, TRANSACTIONS, item_at, kind_at, record_count, transaction_at};
+use format::kind::Kind;
+use format::record::{Copy, TRANSACTIONS, has_kind, item_at, record_count, transaction_at};
+use sets::Set;
 use tables::add::{add_to_row, add_writer};
 
-// Keeps a commit: all that commit later come after its transaction. For the records before it, its transaction commits later too.
-fn order_commit(log: &[u8], k: usize, later: u64, after: &mut [u64; TRANSACTIONS]) -> u64
-    requires within { Within log.now k }
-    requires later_commits { LaterCommits log.now (k + 1) later }
-    requires later_orders { LaterOrders log.now (k + 1) after.old }
-    ensures commits { LaterCommits log.now k result }
-    ensures orders { LaterOrders log.now k after.new }
-{
-    if kind_at(log, k) == COMMIT {
-        add_to_row(log, k, later, after);
-        return sets::with_member(later, transaction_at(log, k));
-    }
-    later
+// For each item the transactions that write it, and for each transaction those that commit after it. The writers of an item come in the
+// order of their commits.
+#[derive(Drop)]
+pub struct WriteOrder {
+    writers: [Set; Copy::ITEMS],
+    after: [Set; TRANSACTIONS],
 }
 
-// Reads a log that passes, from its end, for its write orders. The result is the set of its transactions: each of them commits.
-pub fn keep_order(
-    log: &[u8],
-    writers: &mut [u64; Copy::ITEMS],
-    after: &mut [u64; TRANSACTIONS],
-) -> u64
-    requires passes { Passes log.now }
-    requires no_writers { Empty items writers.old }
-    requires nobody_after { Empty transactions after.old }
-    ensures kept_order { KeptOrder log.now writers.new after.new }
-    ensures members { (t : ℕ) → has result t ≡ in_log log.now t }
-{
-    let mut committed: u64 = 0;
-    let mut k = record_count(log);
-    while 0 < k {
-        k -= 1;
-        add_writer(log, k, item_at(log, k), writers);
-        committed = order_commit(log, k, committed, after);
+impl WriteOrder {
+    // The write orders of a log that passes, read from its end, and beside them the set of its transactions: each of them commits.
+    pub fn of_log(log: &[u8]) -> (WriteOrder, Set)
+        requires passes { Passes log.now }
+        ensures kept_order { KeptOrder log.now result.0 }
+        ensures members { (t : ℕ) → has result.1 t ≡ in_log log.now t }
+    {
+        let mut order = WriteOrder::new();
+        let mut committed = Set::EMPTY;
+        for k in (0..record_count(log)).rev() {
+            committed = order.keep(log, k, committed);
+        }
+        (order, committed)
     }
-    committed
-}
 
-// The writers of record k's item that come after s in its write order.
-pub(crate) fn writers_after(
-    log: &[u8],
-    k: usize,
-    s: usize,
-    writers: &[u64; Copy::ITEMS],
-    after: &[u64; TRANSACTIONS],
-) -> u64
-    requires within { Within log.now k }
-    requires s_in_range { s < transactions }
-    requires kept_order { KeptOrder log.now writers.now after.now }
-    ensures { (j : ℕ) → has result j ≡ writer_after (history_of log.now) (item log.now k) s j }
-{
-    let x = item_at(log, k);
-    sets::common(writers[x], after[s])
+    // What is kept at the end of a log: nothing, whatever the log.
+    fn new() -> WriteOrder
+        ensures { (log : List ℕ) → KeptFrom log (records log) result 0 }
+    {
+        WriteOrder {
+            writers: [Set::EMPTY; Copy::ITEMS],
+            after: [Set::EMPTY; TRANSACTIONS],
+        }
+    }
+
+    // Keeps record k. All that commit later come after the transaction of a commit, and for the records before it, this one commits
+    // later too.
+    fn keep(&mut self, log: &[u8], k: usize, later: Set) -> Set
+        requires within { Within log.now k }
+        requires kept { KeptFrom log.now (k + 1) self.old later }
+        ensures { KeptFrom log.now k self.new result }
+    {
+        add_writer(log, k, item_at(log, k), &mut self.writers);
+        if has_kind(log, k, Kind::Commit) {
+            add_to_row(log, k, later, &mut self.after);
+            return later.with(transaction_at(log, k));
+        }
+        later
+    }
+
+    // The writers of record k's item that come after s in its write order.
+    pub(crate) fn writers_after(&self, log: &[u8], k: usize, s: usize) -> Set
+        requires within { Within log.now k }
+        requires s_in_range { s < transactions }
+        requires kept_order { KeptOrder log.now self.now }
+        ensures { (j : ℕ) → has result j ≡ writer_after (history_of log.now) (item log.now k) s j }
+    {
+        self.writers[item_at(log, k)].common(self.after[s])
+    }
 }
