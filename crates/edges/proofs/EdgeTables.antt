@@ -4,21 +4,20 @@ use mathlib.Core.Path.{◌≡◌}
 use mathlib.Core.List.{List}
 use Rattle.sets.specs.Bits.{Holds}
 use Rattle.sets.proofs.Tables.{holds_same}
-use Rattle.histories.specs.Reasons.{conflict, write_order, read_before, edge, reason}
+use Rattle.histories.specs.Reasons.{edge, reason}
 use Rattle.histories.proofs.Edges.{edge_plain, reason_plain}
 use Rattle.rules.specs.LogHistory.{history_of}
 use Rattle.rules.specs.Record.{transactions}
 use Rattle.rules.proofs.PassedLogs.{all_part}
 use Rattle.tables.specs.ReasonTables.{any_reason, lowest_in}
+use Rattle.tables.specs.declared.reasons.ReasonTables.{ReasonTables}
+use Rattle.edges.specs.ByReason.{HoldsEdges}
 
 -- Every transaction of a record takes part in the history of a log, so the code need not ask who does.
-module _ (log first second third : List ℕ)
-    (a : Holds transactions (conflict (history_of log)) first)
-    (b : Holds transactions (write_order (history_of log)) second)
-    (c : Holds transactions (read_before (history_of log)) third)
-  where
-    pub lowest_whole : (i j : ℕ) → lowest_in first second third i j ≡ reason (history_of log) i j
-    lowest_whole i j = rw (a.said i j, b.said i j, c.said i j) (reason_plain (history_of log) i j (all_part log))
+module _ (log : List ℕ) (t : ReasonTables) (w : HoldsEdges log t) where
+  pub lowest_whole : (i j : ℕ) → lowest_in t.by_conflict t.by_order t.by_read i j ≡ reason (history_of log) i j
+  lowest_whole i j = rw (w.conflict_holds.said i j, w.order_holds.said i j, w.read_holds.said i j) (reason_plain (history_of log) i j (all_part log))
 
-    pub joined_whole : {table : List ℕ} → Holds transactions (any_reason first second third) table → Holds transactions (edge (history_of log)) table
-    joined_whole w = holds_same w (λ i j. rw (a.said i j, b.said i j, c.said i j) (edge_plain (history_of log) i j (all_part log)))
+  pub joined_whole : {table : List ℕ} → Holds transactions (any_reason t.by_conflict t.by_order t.by_read) table → Holds transactions (edge (history_of log)) table
+  joined_whole v =
+      holds_same v (λ i j. rw (w.conflict_holds.said i j, w.order_holds.said i j, w.read_holds.said i j) (edge_plain (history_of log) i j (all_part log)))

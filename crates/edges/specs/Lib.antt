@@ -1,2 +1,3 @@
+pub mod ByReason
 pub mod Numbers
 pub mod Promises

@@ -1,105 +1,130 @@
--- What the code keeps is what the definitions say: the sorted table is the log's line or cycle, and what is written from the sort's
--- buffer are its records.
-use Prim.Native.Nat.{ℕ, ◌+◌, ◌<◌, ◌≤◌}
+-- What the code keeps is what the definitions say: the sort gives the log's line or cycle, whose members it leaves in front of its buffer, and
+-- what is written of them are its records.
+use Prim.Native.Nat.{ℕ, ◌+◌, ◌≤◌}
 use native.Mathlib.Omega.{arith}
-use mathlib.Core.Path.{◌≡◌, sym, ◌∙◌, ap, ap₂, subst₂, fun_ext}
+use mathlib.Core.Path.{◌≡◌, refl, sym, ◌∙◌, ap, ap₂, subst, fun_ext}
 use mathlib.Core.List.{List}
-use lib.ListN.{length, get_or, drop, get_or-append}
-use lib.Seq.{sets, sets-eq}
-use Rattle.sets.specs.Bits.{numbers, has, in_row, Holds}
-use Rattle.histories.specs.Reasons.{edge, reason}
+use lib.ListN.{length, take, drop, replicate, length-replicate}
+use lib.Seq.{sets, sets-eq, length-sets, take-append_seam}
+use Rattle.sets.specs.Bits.{numbers, has, Holds}
+use Rattle.sets.proofs.Tables.{empty_entry}
+use Rattle.histories.specs.Reasons.{reason}
 use Rattle.rules.specs.Answer.{gives}
 use Rattle.rules.specs.LogHistory.{history_of}
 use Rattle.rules.specs.Questions.{members}
 use Rattle.rules.specs.Record.{transactions}
 use Rattle.rules.specs.Passes.{Passes}
 use Rattle.rules.proofs.Graphs.{members_hold}
-use Rattle.lines.specs.Rule.{LineOrCycle, line, cycle, members_of, sorted}
-use Rattle.answers.specs.Verdict.{entry, pairs, round_to, line_or_cycle, line_records, cycle_records, answer_records}
+use Rattle.tables.specs.ReasonTables.{any_reason, lowest_in}
+use Rattle.tables.specs.declared.reasons.ReasonTables.{ReasonTables}
+use Rattle.edges.specs.ByReason.{HoldsEdges}
+use Rattle.edges.proofs.EdgeTables.{joined_whole, lowest_whole}
+use Rattle.lines.specs.Rule.{LineOrCycle, line, cycle, members_of, length_of, sorted}
+use Rattle.lines.proofs.Outcomes.{count_of, line_of, cycle_of}
+use Rattle.sort.specs.Numbers.{sorted_says}
+use Rattle.sort.specs.Promises.{sorted_table, SortsTable}
+use Rattle.sort.specs.declared.Sorted.{Sorted}
+use Rattle.sort.specs.declared.Sorted.TheVariants.{Line, Cycle}
+use Rattle.answers.specs.Verdict.{entry, pairs, round_to, line_or_cycle, answer_records}
+use Rattle.answers.proofs.AnswerRecords.{pairs_same, line_records_are, cycle_records_are, ordered_fits, ordered_low}
 use Rattle.writing.specs.Kept.{Low, Along}
-use Rattle.answers.proofs.AnswerRecords.{pairs_same, round_low, line_records_are, cycle_records_are, ordered_fits, ordered_low}
 
--- a log that passes
-module _ (log : List ℕ) (sound : Passes log) where
-  -- by its table and its set the sort gives its line or cycle
-  pub sorted_is : (table : List ℕ) (set : ℕ) → Holds transactions (edge (history_of log)) table → set ≡ members log
-      → sorted numbers (in_row table) (has set) ≡ line_or_cycle log
+-- a buffer for transactions in which nothing stands
+abbrev pub blank : List ℕ
+blank = replicate transactions 0
+
+-- how many members the sort says
+abbrev pub count : Sorted → ℕ
+count answer = count_of (sorted_says answer)
+
+counted : (o : LineOrCycle (List ℕ)) → count_of (length_of o) ≡ length (members_of o)
+counted (line xs) = refl
+counted (cycle xs) = refl
+
+-- the sort said whether a log has a line or a cycle, and so many members stand in front of its buffer
+pub record SortsLog (log : List ℕ) (answer : Sorted) (buffer : List ℕ) : Type 0 where
+  pub says : sorted_says answer ≡ length_of (line_or_cycle log)
+  pub in_range : count answer ≤ length buffer
+  pub in_front : take (count answer) buffer ≡ members_of (line_or_cycle log)
+
+-- so it does by the tables of a log that passes, joined, and its set
+module _ (log : List ℕ) (sound : Passes log) (t : ReasonTables) (w : HoldsEdges log t) where
+  sorted_is : (table : List ℕ) (set : ℕ) → Holds transactions (any_reason t.by_conflict t.by_order t.by_read) table → set ≡ members log
+      → sorted_table table set ≡ line_or_cycle log
   unfolding line_or_cycle
-  sorted_is table set w e =
-      ap₂ (sorted numbers) (fun_ext (λ i. fun_ext (λ j. w.said i j))) (fun_ext (λ t. ap (λ (s : ℕ). has s t) e ∙ members_hold log sound.in_limits t))
+  sorted_is table set v e =
+      ap₂ (sorted numbers) (fun_ext (λ i. fun_ext (λ j. (joined_whole log t w v).said i j)))
+      (fun_ext (λ k. ap (λ (s : ℕ). has s k) e ∙ members_hold log sound.in_limits k))
 
--- members that the sort has written to the front of a buffer
-module _ (xs blank : List ℕ) (fits : length xs ≤ length blank) where
-  abbrev buffer : List ℕ
-  buffer = sets blank 0 xs
-
-  pub in_front : (k : ℕ) → k < length xs → entry buffer k ≡ entry xs k
-  in_front k l =
-      ap (λ (ys : List ℕ). get_or ys k 0) (sets-eq xs blank 0 (omega (arith, fits))) ∙ get_or-append xs (drop (0 + length xs) blank) 0 k l
-
-  -- the records of a line: nothing stands in the second bytes
-  pub line_written : (seconds : List ℕ) → ((k : ℕ) → entry seconds k ≡ 0) → pairs (length xs) (entry buffer) (entry seconds) ≡ line_records xs
-  line_written seconds none =
-      pairs_same (length xs) (entry buffer) (entry seconds) (entry xs) (λ k. 0) in_front (λ k l. none k) ∙ sym (line_records_are xs)
-
-  -- the records of a cycle: the reasons do
-  pub cycle_written : (log seconds : List ℕ) (lowest : ℕ → ℕ → ℕ) → ((i j : ℕ) → lowest i j ≡ reason (history_of log) i j)
-      → Along lowest buffer (length xs) (length xs) seconds → pairs (length xs) (entry buffer) (entry seconds) ≡ cycle_records log xs
-  cycle_written log seconds lowest same w =
-      pairs_same (length xs) (entry buffer) (entry seconds) (entry xs) next_reason in_front second ∙ sym (cycle_records_are log xs)
+  pub sorts_log : {table buffer : List ℕ} {set : ℕ} {answer : Sorted} → Holds transactions (any_reason t.by_conflict t.by_order t.by_read) table
+      → set ≡ members log → SortsTable table set blank answer buffer → SortsLog log answer buffer
+  sorts_log {table = table} {buffer = buffer} {set = set} {answer = answer} v e s =
+      record {
+        says = said;
+        in_range = rw (left, length-sets, length-replicate, many) fits;
+        in_front =
+            rw (left, many, sets-eq xs blank 0 (omega (arith, length-replicate {A = ℕ} transactions 0, fits)))
+            (take-append_seam xs (drop (0 + length xs) blank));
+      }
     where
-      next_reason : ℕ → ℕ
-      next_reason k = reason (history_of log) (entry xs k) (entry xs (round_to (length xs) k))
+      xs : List ℕ
+      xs = members_of (line_or_cycle log)
 
-      second : (k : ℕ) → k < length xs → entry seconds k ≡ reason (history_of log) (entry xs k) (entry xs (round_to (length xs) k))
-      second k l =
-          w.said k l
-          ∙ ap₂ lowest (in_front k l) (in_front (round_to (length xs) k) (round_low (length xs) k l))
-          ∙ same (entry xs k) (entry xs (round_to (length xs) k))
+      is : sorted_table table set ≡ line_or_cycle log
+      is = sorted_is table set v e
 
--- what stands in the sort's buffer: the n members of the line or the cycle of a log that passes
-pub record InBuffer (log blank buffer : List ℕ) (n : ℕ) : Type 0 where
-  pub sound : Passes log
-  pub whole : length blank ≡ transactions
-  pub holds : buffer ≡ sets blank 0 (members_of (line_or_cycle log))
-  pub counted : n ≡ length (members_of (line_or_cycle log))
+      fits : length xs ≤ transactions
+      fits = ordered_fits log sound
 
--- so what is written from there are the records of the answer
-module _ {log blank buffer : List ℕ} {n : ℕ} (w : InBuffer log blank buffer n) where
-  abbrev o : LineOrCycle (List ℕ)
-  o = line_or_cycle log
+      said : sorted_says answer ≡ length_of (line_or_cycle log)
+      said = s.says ∙ ap length_of is
 
-  abbrev xs : List ℕ
-  xs = members_of o
+      many : count answer ≡ length xs
+      many = ap count_of said ∙ counted (line_or_cycle log)
 
-  fits : length xs ≤ length blank
-  fits = rw w.whole (ordered_fits log w.sound)
+      left : buffer ≡ sets blank 0 xs
+      left = s.leaves ∙ ap (λ (o : LineOrCycle (List ℕ)). sets blank 0 (members_of o)) is
 
-  pub counted_low : n ≤ transactions
-  counted_low = rw w.counted (ordered_fits log w.sound)
+-- the members are transactions
+pub front_low : {log buffer : List ℕ} {answer : Sorted} → SortsLog log answer buffer → Passes log
+    → Low (length (take (count answer) buffer)) (take (count answer) buffer)
+front_low {log = log} w sound = subst (λ (ys : List ℕ). Low (length ys) ys) (sym w.in_front) (ordered_low log sound)
 
-  -- the first n of the buffer are transactions
-  pub first_low : Low n buffer
-  first_low = subst₂ (λ (m : ℕ) (ys : List ℕ). Low m ys) (sym w.counted) (sym w.holds) low
-    where
-      low : Low (length xs) (sets blank 0 xs)
-      low k l = rw (in_front xs blank fits k l) (ordered_low log w.sound k l)
+-- members and their second bytes are the records of the answer
+abbrev pub Records : (log seconds ys : List ℕ) → Type 0
+Records log seconds ys = pairs (length ys) (entry ys) (entry seconds) ≡ answer_records log (gives (line_or_cycle log))
 
-  module _ (old seconds : List ℕ) where
-    -- n is the number of members
-    by_length : sets old 0 (pairs n (entry buffer) (entry seconds)) ≡ sets old 0 (pairs (length xs) (entry (sets blank 0 xs)) (entry seconds))
-    by_length = ap₂ (λ (m : ℕ) (ys : List ℕ). sets old 0 (pairs m (entry ys) (entry seconds))) w.counted w.holds
+-- of a line: nothing stands in the second bytes
+pub line_written : {log buffer : List ℕ} {n : ℕ} → SortsLog log (Line n) buffer → Records log blank (take n buffer)
+line_written {log = log} {n = n} w = subst (Records log blank) (sym w.in_front) of_members
+  where
+    xs : List ℕ
+    xs = members_of (line_or_cycle log)
 
-    pub line_answer : o ≡ line xs → ((k : ℕ) → entry seconds k ≡ 0)
-        → sets old 0 (pairs n (entry buffer) (entry seconds)) ≡ sets old 0 (answer_records log (gives o))
-    line_answer is none =
-        by_length
-        ∙ ap (sets old 0) (line_written xs blank fits seconds none ∙ sym (ap (λ (a : LineOrCycle (List ℕ)). answer_records log (gives a)) is))
+    of_members : Records log blank xs
+    of_members =
+        pairs_same (length xs) (entry xs) (entry blank) (entry xs) (λ k. 0) (λ k l. refl) (λ k l. empty_entry transactions k)
+        ∙ sym (line_records_are xs)
+        ∙ sym (ap (λ (o : LineOrCycle (List ℕ)). answer_records log (gives o)) (line_of n (line_or_cycle log) w.says).is_one)
 
-    pub cycle_answer : o ≡ cycle xs → (lowest : ℕ → ℕ → ℕ) → ((i j : ℕ) → lowest i j ≡ reason (history_of log) i j) → Along lowest buffer n n seconds
-        → sets old 0 (pairs n (entry buffer) (entry seconds)) ≡ sets old 0 (answer_records log (gives o))
-    cycle_answer is lowest same v =
-        let along = subst₂ (λ (m : ℕ) (ys : List ℕ). Along lowest ys m m seconds) w.counted w.holds v in
-        by_length
-        ∙ ap (sets old 0)
-        (cycle_written xs blank fits log seconds lowest same along ∙ sym (ap (λ (a : LineOrCycle (List ℕ)). answer_records log (gives a)) is))
+-- of a cycle: the reasons do
+pub cycle_written : {log buffer : List ℕ} {n : ℕ} → SortsLog log (Cycle n) buffer → (t : ReasonTables) → HoldsEdges log t → (seconds : List ℕ)
+    → Along (lowest_in t.by_conflict t.by_order t.by_read) (take n buffer) (length (take n buffer)) (length (take n buffer)) seconds
+    → Records log seconds (take n buffer)
+cycle_written {log = log} {n = n} w t v seconds = subst Recorded (sym w.in_front) of_members
+  where
+    xs : List ℕ
+    xs = members_of (line_or_cycle log)
+
+    Recorded : List ℕ → Type 0
+    Recorded ys = Along (lowest_in t.by_conflict t.by_order t.by_read) ys (length ys) (length ys) seconds → Records log seconds ys
+
+    next : ℕ → ℕ
+    next k = entry xs (round_to (length xs) k)
+
+    of_members : Recorded xs
+    of_members a =
+        pairs_same (length xs) (entry xs) (entry seconds) (entry xs) (λ k. reason (history_of log) (entry xs k) (next k)) (λ k l. refl)
+        (λ k l. a.said k l ∙ lowest_whole log t v (entry xs k) (next k))
+        ∙ sym (cycle_records_are log xs)
+        ∙ sym (ap (λ (o : LineOrCycle (List ℕ)). answer_records log (gives o)) (cycle_of n (line_or_cycle log) w.says).is_one)

@@ -18,21 +18,17 @@ pub use checked_log::source::source_of_record;
 pub use edges::graph::edge_between;
 use edges::graph::edges_by_reason;
 use format::record::TRANSACTIONS;
-use refusals::refusal::{Checked, Refusal};
+use refusals::refusal::Refusal;
 use sort::{Sorted, sort};
-use tables::reasons::joined;
 use writing::{MOST_ANSWER, reasons_along, write_records};
 
 // Numbers 1 to 9 for a log and an answer buffer of so many bytes.
-fn checked(log: &[u8], room: usize) -> Checked
+fn checked(log: &[u8], room: usize) -> Result<(), Refusal>
     ensures { checked_says result ≡ verdict_check log.now room }
 {
-    let length = length_answer(log);
-    if let Checked::Refused(_) = length {
-        return length;
-    }
+    length_answer(log)?;
     if room < MOST_ANSWER {
-        return Checked::Refused(Refusal::ShortBuffer);
+        return Err(Refusal::ShortBuffer);
     }
     content_answer(log)
 }
@@ -44,21 +40,18 @@ fn ordered(log: &[u8], answer: &mut [u8]) -> Verdict
     ensures says { verdict_says result ≡ how_many (gives (line_or_cycle log.now)) }
     ensures written { answer.new ≡ sets answer.old 0 (answer_records log.now (gives (line_or_cycle log.now))) }
 {
-    let mut by_conflict = [0u64; TRANSACTIONS];
-    let mut by_order = [0u64; TRANSACTIONS];
-    let mut by_read = [0u64; TRANSACTIONS];
-    let mut table = [0u64; TRANSACTIONS];
+    let edges = edges_by_reason(log);
+    let table = edges.by_reason.joined();
     let mut members = [0u8; TRANSACTIONS];
-    let set = edges_by_reason(log, &mut by_conflict, &mut by_order, &mut by_read);
-    joined(&by_conflict, &by_order, &by_read, &mut table);
-    match sort(&table, set, &mut members) {
+    match sort(&table, edges.members, &mut members) {
         Sorted::Line(n) => {
-            write_records(&members, &[0u8; TRANSACTIONS], n, answer);
+            write_records(&members[..n], &[0u8; TRANSACTIONS], answer);
             Verdict::Line(n)
         }
         Sorted::Cycle(n) => {
-            let reasons = reasons_along(&by_conflict, &by_order, &by_read, &members, n);
-            write_records(&members, &reasons, n, answer);
+            let cycle = &members[..n];
+            let reasons = reasons_along(&edges.by_reason, cycle);
+            write_records(cycle, &reasons, answer);
             Verdict::Cycle(n)
         }
     }
@@ -71,7 +64,7 @@ pub fn verdict(log: &[u8], answer: &mut [u8]) -> Verdict
     ensures { JudgesLog log.now answer.old result answer.new }
 {
     match checked(log, answer.len()) {
-        Checked::Refused(why) => Verdict::Refused(why),
-        Checked::Passed => ordered(log, answer),
+        Ok(()) => ordered(log, answer),
+        Err(why) => Verdict::Refused(why),
     }
 }

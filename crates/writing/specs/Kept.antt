@@ -3,7 +3,7 @@ use Rattle.std.specs.Prelude.{ℕ, ◌<◌, ◌≡◌, List, length}
 use Rattle.rules.specs.Record.{transactions}
 use Rattle.answers.specs.Verdict.{entry, round_to}
 
--- the first n of a buffer are transactions
+-- the first n of a list are transactions
 abbrev pub Low : ℕ → List ℕ → Type 0
 Low n xs = (k : ℕ) → k < n → entry xs k < transactions
 

@@ -1,15 +1,16 @@
 // Answer records: the reasons along a cycle, and how the records are written into a buffer that is lent, two bytes each.
 #![tactic(auto)]
 
-ghost use Rattle.std.specs.Prelude.{◌≤◌, ◌≡◌, length};
+ghost use Rattle.std.specs.Prelude.{◌<◌, ◌≤◌, ◌≡◌, ◌*◌, length};
 ghost use Rattle.std.proofs.lemmas.List.Edits.{sets};
 ghost use Rattle.rules.specs.Record.{transactions};
+ghost use Rattle.tables.specs.Numbers.{reason_says};
 ghost use Rattle.tables.specs.ReasonTables.{lowest_in};
-ghost use Rattle.answers.specs.Verdict.{most_answer, entry, pairs};
+ghost use Rattle.answers.specs.Verdict.{record_size, entry, pairs, round_to};
 ghost use Rattle.writing.specs.Kept.{Low, Along};
 
 use format::record::TRANSACTIONS;
-use tables::reasons::lowest_reason;
+use tables::reasons::{Reason, ReasonTables};
 
 // An answer record's bytes: a transaction, and 0 or a reason.
 pub const RECORD_SIZE: usize = 2;
@@ -17,45 +18,47 @@ pub const RECORD_SIZE: usize = 2;
 // The room that any answer fits into: a record for each transaction.
 pub const MOST_ANSWER: usize = TRANSACTIONS * RECORD_SIZE;
 
-// The first n answer records: a transaction each, and its second byte.
-pub fn write_records(
-    members: &[u8; TRANSACTIONS],
-    seconds: &[u8; TRANSACTIONS],
-    n: usize,
-    answer: &mut [u8],
-)
-    requires n_in_range { n ≤ transactions }
-    requires room { most_answer ≤ length answer.old }
-    ensures { answer.new ≡ sets answer.old 0 (pairs n (entry members.now) (entry seconds.now)) }
+// An answer record for each member: the transaction, and its second byte.
+#[tactic(auto, using(crate::proofs::Pairs::pairs_none, crate::proofs::Pairs::pairs_more))]
+pub fn write_records(members: &[u8], seconds: &[u8], answer: &mut [u8])
+    requires second_for_each { length members.now ≤ length seconds.now }
+    requires room { length members.now * record_size ≤ length answer.old }
+    ensures { answer.new ≡ sets answer.old 0 (pairs (length members.now) (entry members.now) (entry seconds.now)) }
 {
-    let mut k = 0;
-    while k < n {
-        answer[k * RECORD_SIZE] = members[k];
+    for (k, member) in members.iter().enumerate() {
+        answer[k * RECORD_SIZE] = *member;
         answer[k * RECORD_SIZE + 1] = seconds[k];
-        k += 1;
     }
 }
 
-// For each of a cycle's n transactions the lowest reason of its edge to the next, the last one's to the first.
-pub fn reasons_along(
-    by_conflict: &[u64; TRANSACTIONS],
-    by_order: &[u64; TRANSACTIONS],
-    by_read: &[u64; TRANSACTIONS],
-    members: &[u8; TRANSACTIONS],
-    n: usize,
-) -> [u8; TRANSACTIONS]
-    requires n_in_range { n ≤ transactions }
-    requires low { Low n members.now }
-    ensures { Along (lowest_in by_conflict.now by_order.now by_read.now) members.now n n result }
+// The second byte of a record in a cycle, and the answer to a question about an edge: the number of the reason, or 0 where there is none.
+pub fn reason_byte(reason: Option<Reason>) -> u8
+    ensures { result ≡ reason_says reason }
+{
+    reason.map_or(0, Reason::number)
+}
+
+// The place after place k round a cycle of n: the next, and after the last the first.
+#[tactic(auto, using(answers::proofs::AnswerRecords::round_next, answers::proofs::AnswerRecords::round_back))]
+fn place_after(k: usize, n: usize) -> usize
+    requires { k < n }
+    ensures on_the_cycle { result < n }
+    ensures next { result ≡ round_to n k }
+{
+    if k + 1 < n { k + 1 } else { 0 }
+}
+
+// For each transaction of a cycle the lowest reason of its edge to the next, the last one's to the first; 0 where there is no edge.
+#[tactic(auto, using(crate::proofs::Along::along_more))]
+pub fn reasons_along(tables: &ReasonTables, cycle: &[u8]) -> [u8; TRANSACTIONS]
+    requires fits { length cycle.now ≤ transactions }
+    requires low { Low (length cycle.now) cycle.now }
+    ensures { Along (lowest_in tables.now.by_conflict tables.now.by_order tables.now.by_read) cycle.now (length cycle.now) (length cycle.now) result }
 {
     let mut reasons = [0u8; TRANSACTIONS];
-    let mut k = 0;
-    while k < n {
-        let next = if k + 1 < n { k + 1 } else { 0 };
-        let i = members[k] as usize;
-        let j = members[next] as usize;
-        reasons[k] = lowest_reason(by_conflict, by_order, by_read, i, j);
-        k += 1;
+    for (k, member) in cycle.iter().enumerate() {
+        let next = cycle[place_after(k, cycle.len())];
+        reasons[k] = reason_byte(tables.lowest_reason(*member as usize, next as usize));
     }
     reasons
 }

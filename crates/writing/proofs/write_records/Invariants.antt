@@ -1,11 +1,8 @@
 -- `writing::write_records` meets its contract. The invariant: the first k records have been written.
-use Rattle.std.proofs.Common.{◌-◌, ◌≡◌, ◌≤◌}
+use Rattle.std.proofs.Common.{◌≡◌}
 use lib.Seq.{sets}
 use Rattle.answers.specs.Verdict.{entry, pairs}
 use Rattle.writing.proofs.write_records.Given as goal
 
 abbrev pub invariant-loop-k : goal.invariant-loop-k
-invariant-loop-k l = (l.k ≤ l.n) × (l.answer ≡ sets l.initial.answer 0 (pairs l.k (entry l.members) (entry l.seconds)))
-
-abbrev pub decreases-loop-k : goal.decreases-loop-k
-decreases-loop-k l = l.n - l.k
+invariant-loop-k l = l.answer ≡ sets l.initial.answer 0 (pairs l.k (entry l.members) (entry l.seconds))

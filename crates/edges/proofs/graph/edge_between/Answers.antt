@@ -1,36 +1,30 @@
 -- `edges::graph::edge_between` meets its contract: the check's refusal is passed on, then 10 is tried, and then the reason is given.
-use Rattle.std.proofs.Common.{List, ap, sym, ℕ, ◌∙◌, ◌≡◌}
-use Rattle.rules.specs.Answer.{gives, passed}
-use Rattle.rules.specs.Refusals.{check_answer}
+use Rattle.std.proofs.Common.{ap, sym, ◌∙◌}
+use Rattle.std.proofs.lemmas.Result.{err_from_is_err_and}
+use mathlib.Core.Logic.{⊎_elim}
+use Rattle.rules.specs.Answer.{gives}
 use Rattle.rules.proofs.PassedLogs.{passed_passes}
 use Rattle.rules.proofs.Asked.{edge_refused, edge_from_none, edge_to_none, edge_given}
-use Rattle.refusals.specs.Numbers.{checked_says}
+use Rattle.edges.proofs.EdgeTables.{lowest_whole}
 use Rattle.edges.proofs.graph.edge_between.Goals as goal
-use Rattle.edges.proofs.graph.edge_between.Goals.{In-Passed}
 
--- where the log has passed
-module _ (c : In-Passed) where
-  abbrev log_of : List ℕ
-  log_of = c.args.log.now
-
-  sound : check_answer log_of ≡ passed
-  sound = sym c.check.ensures ∙ ap checked_says c.in-Passed.is
+pub returns-in_err-check : goal.returns-in_err-check
+returns-in_err-check c =
+    let p = err_from_is_err_and c.from_residual.result c.from_residual.ensures.1 in
+    rw (p.1, p.2) (sym (edge_refused c.args.log.now c.args.i c.args.j (sym c.in_err-check.ensures)))
 
 pub returns-then-i-ge-TRANSACTIONS : goal.returns-then-i-ge-TRANSACTIONS
 returns-then-i-ge-TRANSACTIONS c =
-    sym (edge_from_none c.args.log.now c.args.i c.args.j (sound (goal.at.returns-then-i-ge-TRANSACTIONS c).In-Passed) c.if-i-ge-TRANSACTIONS.true)
+    let log = c.args.log.now in
+    let sound = sym c.in_ok-check.ensures in
+    sym
+    (⊎_elim (edge_from_none log c.args.i c.args.j sound) (λ w. edge_to_none log c.args.i c.args.j sound w.1) c.then-i-ge-TRANSACTIONS.either)
 
-pub returns-then-j-ge-TRANSACTIONS : goal.returns-then-j-ge-TRANSACTIONS
-returns-then-j-ge-TRANSACTIONS c =
-    sym (edge_to_none c.args.log.now c.args.i c.args.j (sound (goal.at.returns-then-j-ge-TRANSACTIONS c).In-Passed) c.if-j-ge-TRANSACTIONS.true)
+pub edges_by_reason-requires : goal.edges_by_reason-requires
+edges_by_reason-requires c = passed_passes c.args.log.now (sym c.in_ok-check.ensures)
 
-pub reason_between-requires-clause-passes : goal.reason_between-requires-clause-passes
-reason_between-requires-clause-passes c = passed_passes c.args.log.now (sound (goal.at.reason_between-requires-clause-passes c).In-Passed)
-
-pub returns-in-Refused : goal.returns-in-Refused
-returns-in-Refused c =
-    sym (edge_refused c.args.log.now c.args.i c.args.j (sym c.check.ensures ∙ ap checked_says c.in-Refused.is))
-
-pub returns-else-j-ge-TRANSACTIONS : goal.returns-else-j-ge-TRANSACTIONS
-returns-else-j-ge-TRANSACTIONS c =
-    ap gives c.reason_between.ensures ∙ sym (edge_given c.args.log.now c.args.i c.args.j (sound (goal.at.returns-else-j-ge-TRANSACTIONS c).In-Passed) c.if-i-ge-TRANSACTIONS.false c.if-j-ge-TRANSACTIONS.false)
+pub returns : goal.returns
+returns c =
+    let log = c.args.log.now in
+    let reason_is = c.lowest_reason.ensures ∙ lowest_whole log c.edges_by_reason.result.by_reason c.edges_by_reason.ensures.by_reason c.args.i c.args.j in
+    ap gives reason_is ∙ sym (edge_given log c.args.i c.args.j (sym c.in_ok-check.ensures) c.if-i-ge-TRANSACTIONS.false c.if-j-ge-TRANSACTIONS.false)

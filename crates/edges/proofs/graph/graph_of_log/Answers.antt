@@ -1,35 +1,30 @@
--- `edges::graph::graph_of_log` meets its contract: the check's refusal is passed on before the table is touched.
-use Rattle.std.proofs.Common.{List, ap, refl, sym, ℕ, ◌∙◌, ◌≡◌}
-use Rattle.rules.specs.Answer.{gives, passed}
-use Rattle.rules.specs.Refusals.{check_answer}
+-- `edges::graph::graph_of_log` meets its contract: the check's refusal is passed on before the table is touched; and joined, the tables of the
+-- three reasons are the table of every edge, which is the only one.
+use Rattle.std.proofs.Common.{ap, refl, sym, ◌∙◌}
+use Rattle.std.proofs.lemmas.Result.{err_from_is_err_and}
+use Rattle.rules.specs.Answer.{gives}
 use Rattle.rules.proofs.PassedLogs.{passed_passes}
+use Rattle.rules.proofs.Graphs.{only_edges}
 use Rattle.rules.proofs.Asked.{graph_refused, graph_given}
-use Rattle.refusals.specs.Numbers.{checked_says}
+use Rattle.edges.proofs.EdgeTables.{joined_whole}
 use Rattle.edges.proofs.graph.graph_of_log.Goals as goal
-use Rattle.edges.proofs.graph.graph_of_log.Goals.{In-Passed}
 
--- where the log has passed
-module _ (c : In-Passed) where
-  abbrev log_of : List ℕ
-  log_of = c.args.log.now
+pub returns-in_err-check : goal.returns-in_err-check
+returns-in_err-check c =
+    let p = err_from_is_err_and c.from_residual.result c.from_residual.ensures.1 in
+    let is_refused = sym c.in_err-check.ensures in
+    rw (p.1, p.2) (record { says = sym (graph_refused c.args.log.now is_refused); leaves = rw is_refused refl })
 
-  sound : check_answer log_of ≡ passed
-  sound = sym c.check.ensures ∙ ap checked_says c.in-Passed.is
+pub edges_by_reason-edges-requires : goal.edges_by_reason-edges-requires
+edges_by_reason-edges-requires c = passed_passes c.args.log.now (sym c.in_ok-check.ensures)
 
-pub edges_of_log-requires : goal.edges_of_log-requires
-edges_of_log-requires c = passed_passes c.args.log.now (sound (goal.at.edges_of_log-requires c).In-Passed)
-
-pub returns-in-Refused : goal.returns-in-Refused
-returns-in-Refused c =
+pub returns : goal.returns
+returns c =
     let log = c.args.log.now in
-    let is_refused = sym c.check.ensures ∙ ap checked_says c.in-Refused.is in
-    record { says = sym (graph_refused log is_refused); leaves = rw is_refused refl }
-
-pub returns-in-Passed : goal.returns-in-Passed
-returns-in-Passed c =
-    let here = (goal.at.returns-in-Passed c).In-Passed in
-    let log = c.args.log.now in
+    let sound = sym c.in_ok-check.ensures in
+    let edges = c.edges_by_reason-edges.result in
+    let said = c.edges_by_reason-edges.ensures in
     record {
-      says = ap gives c.edges_of_log.ensures.members ∙ sym (graph_given log (sound here));
-      leaves = rw (sound here) c.edges_of_log.ensures.table_filled;
+      says = ap gives said.members ∙ sym (graph_given log sound);
+      leaves = rw sound (only_edges log (passed_passes log sound).in_limits (joined_whole log edges.by_reason said.by_reason c.joined.ensures));
     }
