@@ -1,11 +1,11 @@
 // The graph of a log as a table of its edges, and the question "edge from i to j".
 ghost use Rattle.std.specs.Prelude.{◌≡◌};
-ghost use Rattle.rules.specs.Questions.{members};
 ghost use Rattle.rules.specs.Passes.{Passes};
+ghost use Rattle.rules.specs.Questions.{members};
 ghost use Rattle.edges.specs.ByReason.{HoldsEdges};
 ghost use Rattle.edges.specs.Promises.{GivesGraph, TellsEdge};
 
-use checked_log::check::check;
+use checked_log::passed::Passed;
 use conflicts::conflicts;
 use format::record::TRANSACTIONS;
 use orders::order::WriteOrder;
@@ -22,16 +22,17 @@ pub struct LogEdges {
 }
 
 // The edges of a log that passes. Three passes and the walks back to sources; some 18 KiB are cleared.
-pub fn edges_by_reason(log: &[u8]) -> LogEdges
-    requires { Passes log.now }
-    ensures members { result.members ≡ members log.now }
-    ensures by_reason { HoldsEdges log.now result.by_reason }
+pub fn edges_by_reason(passed: &Passed<'_>) -> LogEdges
+    ensures members { result.members ≡ members passed.now }
+    ensures by_reason { HoldsEdges passed.now result.by_reason }
+    ensures passes { Passes passed.now }
 {
-    let (order, members) = WriteOrder::of_log(log);
-    let by_conflict = conflicts(log);
-    let (by_order, by_read) = order_edges(log, &order);
+    let log = passed.log();
+    let order = WriteOrder::of_log(passed);
+    let by_conflict = conflicts(&log);
+    let (by_order, by_read) = order_edges(&log, &order);
     LogEdges {
-        members,
+        members: order.members(),
         by_reason: ReasonTables {
             by_conflict,
             by_order,
@@ -45,8 +46,7 @@ pub fn edges_by_reason(log: &[u8]) -> LogEdges
 pub fn graph_of_log(log: &[u8], table: &mut [Set; TRANSACTIONS]) -> Result<Set, Refusal>
     ensures { GivesGraph log.now table.old result table.new }
 {
-    check(log)?; // A refusal leaves the table.
-    let edges = edges_by_reason(log);
+    let edges = edges_by_reason(&Passed::check(log)?); // A refusal leaves the table.
     *table = edges.by_reason.joined();
     Ok(edges.members)
 }
@@ -56,9 +56,9 @@ pub fn graph_of_log(log: &[u8], table: &mut [Set; TRANSACTIONS]) -> Result<Set, 
 pub fn edge_between(log: &[u8], i: usize, j: usize) -> Result<Option<Reason>, Refusal>
     ensures { TellsEdge log.now i j result }
 {
-    check(log)?;
+    let passed = Passed::check(log)?;
     if TRANSACTIONS <= i || TRANSACTIONS <= j {
         return Err(Refusal::BadQuestion);
     }
-    Ok(edges_by_reason(log).by_reason.lowest_reason(i, j))
+    Ok(edges_by_reason(&passed).by_reason.lowest_reason(i, j))
 }

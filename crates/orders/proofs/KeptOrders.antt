@@ -52,22 +52,11 @@ module _ (log : List ℕ) where
   items_whole w = sets_whole log (writes_item (history_of log)) items w
 
   module _ (sound : Passes log) where
-    -- .. since nobody commits twice
-    pub order_whole : {order : WriteOrder} {committed : ℕ} → KeptFrom log 0 order committed → KeptOrder log order
-    unfolding is_earlier_commit
-    order_whole w =
-        let whole = rows_whole log (is_earlier_commit log) w.orders in
-        record {
-          item_writers = items_whole w.writers;
-          whole = whole.whole;
-          in_order = λ x s j. whole.said s j ∙ order_by_commits (history_of log) sound.commits_once x s j;
-        }
-
     -- who is in the log commits
-    pub members_whole : {order : WriteOrder} {committed : ℕ} → KeptFrom log 0 order committed → (t : ℕ) → has committed t ≡ in_log log t
+    members_whole : {committed : ℕ} → LaterCommits log 0 committed → (t : ℕ) → has committed t ≡ in_log log t
     unfolding some_before
     members_whole w t =
-        (set_all_from says_commit (records log) w.commits).said t
+        (set_all_from says_commit (records log) w).said t
         ∙ same_truth (some_before (history_of log) (records log) t (is_commit log)) (in_log log t) ahead back
       where
         ahead : some_before (history_of log) (records log) t (is_commit log) ≡ true → in_log log t ≡ true
@@ -78,6 +67,18 @@ module _ (log : List ℕ) where
             let c = sound.sound.commits t b in
             let v = first_of_found (history_of log) t (is_commit log) c.at c.first in
             before_hit (history_of log) t (is_commit log) (records log) c.at v.there v.own v.passes
+
+    -- .. and nobody does twice
+    pub order_whole : {order : WriteOrder} → KeptFrom log 0 order → KeptOrder log order
+    unfolding is_earlier_commit
+    order_whole w =
+        let whole = rows_whole log (is_earlier_commit log) w.orders in
+        record {
+          item_writers = items_whole w.writers;
+          whole = whole.whole;
+          in_order = λ x s j. whole.said s j ∙ order_by_commits (history_of log) sound.commits_once x s j;
+          members = members_whole w.commits;
+        }
 
   -- the tables of reasons 2 and 3
   pub write_order_whole : {table : List ℕ} → LaterRows log (gives_write_order (history_of log)) 0 table

@@ -13,50 +13,56 @@ use sets::Set;
 use tables::add::{add_to_row, add_writer};
 
 // For each item the transactions that write it, and for each transaction those that commit after it. The writers of an item come in the
-// order of their commits.
+// order of their commits. Beside them stand all that commit.
 #[derive(Drop)]
 pub struct WriteOrder {
     writers: [Set; Copy::ITEMS],
     after: [Set; TRANSACTIONS],
+    committed: Set,
 }
 
 impl WriteOrder {
-    // The write orders of a log that passes, read from its end, and beside them the set of its transactions: each of them commits.
-    pub fn of_log(log: &Passed<'_>) -> (WriteOrder, Set)
-        ensures kept_order { KeptOrder log.now result.0 }
-        ensures members { (t : ℕ) → has result.1 t ≡ in_log log.now t }
+    // The write orders of a log that passes, read from its end.
+    pub fn of_log(log: &Passed<'_>) -> WriteOrder
+        ensures { KeptOrder log.now result }
     {
         let log = log.log();
         let mut order = WriteOrder::new();
-        let mut committed = Set::EMPTY;
         for k in (0..log.records()).rev() {
-            committed = order.keep(&log.record(k), committed);
+            order.keep(&log.record(k));
         }
-        (order, committed)
+        order
     }
 
     // What is kept at the end of a log: nothing, whatever the log.
     fn new() -> WriteOrder
-        ensures { (log : List ℕ) → KeptFrom log (records log) result 0 }
+        ensures { (log : List ℕ) → KeptFrom log (records log) result }
     {
         WriteOrder {
             writers: [Set::EMPTY; Copy::ITEMS],
             after: [Set::EMPTY; TRANSACTIONS],
+            committed: Set::EMPTY,
         }
     }
 
     // Keeps a record. All that commit later come after the transaction of a commit, and for the records before it, this one commits
     // later too.
-    fn keep(&mut self, r: &Record<'_>, later: Set) -> Set
-        requires { KeptFrom r.now.log (r.now.place + 1) self.old later }
-        ensures { KeptFrom r.now.log r.now.place self.new result }
+    fn keep(&mut self, r: &Record<'_>)
+        requires { KeptFrom r.now.log (r.now.place + 1) self.old }
+        ensures { KeptFrom r.now.log r.now.place self.new }
     {
         add_writer(r, r.item(), &mut self.writers);
         if r.is(Kind::Commit) {
-            add_to_row(r, later, &mut self.after);
-            return later.with(r.transaction());
+            add_to_row(r, self.committed, &mut self.after);
+            self.committed = self.committed.with(r.transaction());
         }
-        later
+    }
+
+    // The set of the log's transactions: each of them commits.
+    pub fn members(&self) -> Set
+        ensures { (log : List ℕ) → KeptOrder log self.now → (t : ℕ) → has result t ≡ in_log log t }
+    {
+        self.committed
     }
 
     // The writers of the record's item that come after s in its write order.

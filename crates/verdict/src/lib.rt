@@ -3,9 +3,8 @@
 
 ghost use Rattle.std.specs.Prelude.{◌≡◌, length, ◌≤◌};
 ghost use Rattle.std.proofs.lemmas.List.Edits.{sets};
-ghost use Rattle.rules.specs.Answer.{passed, gives};
-ghost use Rattle.rules.specs.Passes.{Passes};
-ghost use Rattle.refusals.specs.Numbers.{checked_says};
+ghost use Rattle.rules.specs.Answer.{gives, ◌then◌};
+ghost use Rattle.checked_log.specs.Numbers.{passed_says};
 ghost use Rattle.answers.specs.Verdict.{most_answer, verdict_check, line_or_cycle, answer_records, how_many};
 ghost use Rattle.verdict.specs.Numbers.{verdict_says};
 ghost use Rattle.verdict.specs.Promises.{JudgesLog};
@@ -14,6 +13,7 @@ pub mod answer;
 
 use crate::answer::Verdict;
 use checked_log::check::{content_answer, length_answer};
+use checked_log::passed::Passed;
 pub use checked_log::source::source_of_record;
 pub use edges::graph::edge_between;
 use edges::graph::edges_by_reason;
@@ -23,24 +23,24 @@ use sort::{Sorted, sort};
 use writing::{MOST_ANSWER, reasons_along, write_records};
 
 // Numbers 1 to 9 for a log and an answer buffer of so many bytes.
-fn checked(log: &[u8], room: usize) -> Result<(), Refusal>
-    ensures { checked_says result ≡ verdict_check log.now room }
+fn checked<'a>(log: &'a [u8], room: usize) -> Result<Passed<'a>, Refusal>
+    ensures { passed_says result ≡ (verdict_check log.now room then gives log.now) }
 {
     length_answer(log)?;
     if room < MOST_ANSWER {
         return Err(Refusal::ShortBuffer);
     }
-    content_answer(log)
+    content_answer(log)?;
+    Ok(Passed::new(log))
 }
 
 // The verdict on a log that passes. The sort works in arrays of its own, so that nothing is written before the answer is whole.
-fn ordered(log: &[u8], answer: &mut [u8]) -> Verdict
-    requires passes { Passes log.now }
-    requires room { most_answer ≤ length answer.old }
-    ensures says { verdict_says result ≡ how_many (gives (line_or_cycle log.now)) }
-    ensures written { answer.new ≡ sets answer.old 0 (answer_records log.now (gives (line_or_cycle log.now))) }
+fn ordered(passed: &Passed<'_>, answer: &mut [u8]) -> Verdict
+    requires { most_answer ≤ length answer.old }
+    ensures says { verdict_says result ≡ how_many (gives (line_or_cycle passed.now)) }
+    ensures written { answer.new ≡ sets answer.old 0 (answer_records passed.now (gives (line_or_cycle passed.now))) }
 {
-    let edges = edges_by_reason(log);
+    let edges = edges_by_reason(passed);
     let table = edges.by_reason.joined();
     let mut members = [0u8; TRANSACTIONS];
     match sort(&table, edges.members, &mut members) {
@@ -64,7 +64,7 @@ pub fn verdict(log: &[u8], answer: &mut [u8]) -> Verdict
     ensures { JudgesLog log.now answer.old result answer.new }
 {
     match checked(log, answer.len()) {
-        Ok(()) => ordered(log, answer),
+        Ok(passed) => ordered(&passed, answer),
         Err(why) => Verdict::Refused(why),
     }
 }

@@ -10,10 +10,10 @@ use Rattle.verdict.proofs.ordered.Goals as goal
 use Rattle.verdict.proofs.ordered.Goals.{In-Line, In-Cycle}
 
 -- a line is in front of the sort's buffer
-line_left : (c : In-Line) → SortsLog c.args.log.now (Line c.in-Line.n) c.sort.new.members
+line_left : (c : In-Line) → SortsLog c.args.passed.now (Line c.in-Line.n) c.sort.new.members
 line_left c =
     let edges = c.edges_by_reason-edges in
-    sorts_log c.args.log.now c.requires.passes edges.result.by_reason edges.ensures.by_reason c.joined-table.ensures edges.ensures.members c.in-Line.ensures
+    sorts_log c.args.passed.now c.edges_by_reason-edges.ensures.passes edges.result.by_reason edges.ensures.by_reason c.joined-table.ensures edges.ensures.members c.in-Line.ensures
 
 pub slice_bounds-members-end : goal.slice_bounds-members-end
 slice_bounds-members-end c = (line_left (goal.at.slice_bounds-members-end c).In-Line).in_range
@@ -30,10 +30,10 @@ returns-in-Line-clause-written c =
     c.write_records.ensures ∙ ap (sets c.args.answer.now 0) (line_written (line_left (goal.at.returns-in-Line-clause-written c).In-Line))
 
 -- a cycle is
-cycle_left : (c : In-Cycle) → SortsLog c.args.log.now (Cycle c.in-Cycle.n) c.sort.new.members
+cycle_left : (c : In-Cycle) → SortsLog c.args.passed.now (Cycle c.in-Cycle.n) c.sort.new.members
 cycle_left c =
     let edges = c.edges_by_reason-edges in
-    sorts_log c.args.log.now c.requires.passes edges.result.by_reason edges.ensures.by_reason c.joined-table.ensures edges.ensures.members c.in-Cycle.ensures
+    sorts_log c.args.passed.now c.edges_by_reason-edges.ensures.passes edges.result.by_reason edges.ensures.by_reason c.joined-table.ensures edges.ensures.members c.in-Cycle.ensures
 
 pub slice_bounds-members-end-in-Cycle : goal.slice_bounds-members-end-in-Cycle
 slice_bounds-members-end-in-Cycle c = (cycle_left (goal.at.slice_bounds-members-end-in-Cycle c).In-Cycle).in_range
@@ -43,7 +43,7 @@ slice_bounds-cycle-end c =
     sym (length-take-le c.in-Cycle.n c.sort.new.members (cycle_left (goal.at.slice_bounds-cycle-end c).In-Cycle).in_range)
 
 pub reasons_along-reasons-requires-clause-low : goal.reasons_along-reasons-requires-clause-low
-reasons_along-reasons-requires-clause-low c = front_low (cycle_left (goal.at.reasons_along-reasons-requires-clause-low c).In-Cycle) c.requires.passes
+reasons_along-reasons-requires-clause-low c = front_low (cycle_left (goal.at.reasons_along-reasons-requires-clause-low c).In-Cycle) c.edges_by_reason-edges.ensures.passes
 
 pub returns-in-Cycle-clause-says : goal.returns-in-Cycle-clause-says
 returns-in-Cycle-clause-says c = ap gives (cycle_left (goal.at.returns-in-Cycle-clause-says c).In-Cycle).says

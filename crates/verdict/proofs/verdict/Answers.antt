@@ -2,16 +2,14 @@
 use Rattle.std.proofs.Common.{ap, length, List, sym, ℕ, ◌∙◌}
 use Rattle.std.proofs.lemmas.List.Edits.{sets}
 use Rattle.rules.specs.Answer.{Answer}
+use Rattle.rules.proofs.Answers.{then_refused, then_given, then_same}
 use Rattle.lines.specs.Rule.{LineOrCycle}
 use Rattle.answers.specs.Verdict.{answer_records, how_many}
-use Rattle.answers.proofs.VerdictRows.{check_passes, enough_room, answer_refused, answer_given}
+use Rattle.answers.proofs.VerdictRows.{enough_room, answer_refused, answer_given}
 use Rattle.verdict.proofs.verdict.Goals as goal
 
-pub ordered-requires-clause-passes : goal.ordered-requires-clause-passes
-ordered-requires-clause-passes c = check_passes c.args.log.now (length c.args.answer.now) (sym c.in-Ok.ensures)
-
-pub ordered-requires-clause-room : goal.ordered-requires-clause-room
-ordered-requires-clause-room c = enough_room c.args.log.now (length c.args.answer.now) (sym c.in-Ok.ensures)
+pub ordered-requires : goal.ordered-requires
+ordered-requires c = enough_room c.args.log.now (length c.args.answer.now) (then_given _ _ _ (sym c.in-Ok.ensures))
 
 -- what is said and written of an answer
 module _ (log old : List ℕ) where
@@ -20,14 +18,16 @@ module _ (log old : List ℕ) where
 
 pub returns-in-Err : goal.returns-in-Err
 returns-in-Err c =
-    let is = answer_refused c.args.log.now (length c.args.answer.now) (sym c.in-Err.ensures) in
+    let is = answer_refused c.args.log.now (length c.args.answer.now) (then_refused _ _ _ _ (sym c.in-Err.ensures)) in
     record { says = sym (ap how_many is); leaves = sym (ap (written c.args.log.now c.args.answer.now) is) }
 
 pub returns-in-Ok : goal.returns-in-Ok
 returns-in-Ok c =
-    let said = c.ordered.ensures in
-    let is = answer_given c.args.log.now (length c.args.answer.now) (sym c.in-Ok.ensures) in
+    let same = sym (then_same _ _ _ (sym c.in-Ok.ensures)) in
+    let says = rw same at c.ordered.ensures.says in
+    let writes = rw same at c.ordered.ensures.written in
+    let is = answer_given c.args.log.now (length c.args.answer.now) (then_given _ _ _ (sym c.in-Ok.ensures)) in
     record {
-      says = said.says ∙ sym (ap how_many is);
-      leaves = said.written ∙ sym (ap (written c.args.log.now c.args.answer.now) is);
+      says = says ∙ sym (ap how_many is);
+      leaves = writes ∙ sym (ap (written c.args.log.now c.args.answer.now) is);
     }

@@ -3,6 +3,7 @@
 use Rattle.std.proofs.Common.{ap, refl, sym, ◌∙◌}
 use Rattle.std.proofs.lemmas.Result.{err_from_is_err_and}
 use Rattle.rules.specs.Answer.{gives}
+use Rattle.rules.proofs.Answers.{then_refused, then_given, then_same}
 use Rattle.rules.proofs.PassedLogs.{passed_passes}
 use Rattle.rules.proofs.Graphs.{only_edges}
 use Rattle.rules.proofs.Asked.{graph_refused, graph_given}
@@ -12,19 +13,18 @@ use Rattle.edges.proofs.graph.graph_of_log.Goals as goal
 pub returns-in_err-check : goal.returns-in_err-check
 returns-in_err-check c =
     let p = err_from_is_err_and c.from_residual.result c.from_residual.ensures.1 in
-    let is_refused = sym c.in_err-check.ensures in
+    let is_refused = then_refused _ _ _ _ (sym c.in_err-check.ensures) in
     rw (p.1, p.2) (record { says = sym (graph_refused c.args.log.now is_refused); leaves = rw is_refused refl })
-
-pub edges_by_reason-edges-requires : goal.edges_by_reason-edges-requires
-edges_by_reason-edges-requires c = passed_passes c.args.log.now (sym c.in_ok-check.ensures)
 
 pub returns : goal.returns
 returns c =
     let log = c.args.log.now in
-    let sound = sym c.in_ok-check.ensures in
+    let sound = then_given _ _ _ (sym c.in_ok-check.ensures) in
+    let same = sym (then_same _ _ _ (sym c.in_ok-check.ensures)) in
     let edges = c.edges_by_reason-edges.result in
-    let said = c.edges_by_reason-edges.ensures in
+    let said = rw same at c.edges_by_reason-edges.ensures.members in
+    let holds = rw same at c.edges_by_reason-edges.ensures.by_reason in
     record {
-      says = ap gives said.members ∙ sym (graph_given log sound);
-      leaves = rw sound (only_edges log (passed_passes log sound).in_limits (joined_whole log edges.by_reason said.by_reason c.joined.ensures));
+      says = ap gives said ∙ sym (graph_given log sound);
+      leaves = rw sound (only_edges log (passed_passes log sound).in_limits (joined_whole log edges.by_reason holds c.joined.ensures));
     }

@@ -23,26 +23,26 @@ pub returns-then-is : goal.returns-then-is
 returns-then-is c =
     let log = c.args.r.now.log in
     let k = c.args.r.now.place in
-    let later = c.args.later in
+    let later = c.args.self.now.committed in
     let there = c.item.ensures.within.there in
     let kept = c.requires in
     let commits = sym c.if-is.ensures in
     record {
       writers = writers_kept (goal.at.returns-then-is c).After-add_writer;
-      commits = commits_add log k there kept.commits c.transaction.result c.with.result commits c.transaction.ensures.value c.with.ensures;
+      commits = commits_add log k there kept.commits c.transaction.result c.with-self.result commits c.transaction.ensures.value c.with-self.ensures;
       orders = rows_add log (is_earlier_commit log) k there kept.orders later (λ j. earlier_commit_kept log k later j kept.commits commits)
           c.add_to_row.ensures;
     }
 
-pub returns : goal.returns
-returns c =
+pub returns-else-is : goal.returns-else-is
+returns-else-is c =
     let log = c.args.r.now.log in
     let k = c.args.r.now.place in
     let there = c.item.ensures.within.there in
     let kept = c.requires in
     let other = sym c.if-is.ensures in
     record {
-      writers = writers_kept (goal.at.returns c).After-add_writer;
+      writers = writers_kept (goal.at.returns-else-is c).After-add_writer;
       commits = commits_stay log k there kept.commits other;
       orders = rows_stay log (is_earlier_commit log) k there kept.orders (λ j. no_earlier_commit log k j other);
     }

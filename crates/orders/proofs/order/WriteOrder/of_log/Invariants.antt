@@ -3,4 +3,4 @@ use Rattle.orders.specs.Kept.{KeptFrom}
 use Rattle.orders.proofs.order.WriteOrder.of_log.Given as goal
 
 abbrev pub invariant-loop-k : goal.invariant-loop-k
-invariant-loop-k l = KeptFrom l.log l.k l.order l.committed
+invariant-loop-k l = KeptFrom l.log l.k l.order
