@@ -8,8 +8,10 @@ ghost use Rattle.answers.specs.Demands.{Demand1, Demand2, Demand3, GraphExactly}
 ghost use Rattle.edges.specs.Numbers.{graph_says};
 ghost use Rattle.verdict.specs.Numbers.{verdict_says};
 
-use edges::graph::{Graph, graph_of_log};
+use edges::graph::graph_of_log;
 use format::record::TRANSACTIONS;
+use refusals::refusal::Refusal;
+use sets::Set;
 use verdict::answer::Verdict;
 use verdict::verdict;
 
@@ -24,7 +26,7 @@ pub fn judged(log: &[u8], answer: &mut [u8]) -> Verdict
 }
 
 // The graph of any bytes: what it promises, and demand 2.
-pub fn graph(log: &[u8], table: &mut [u64; TRANSACTIONS]) -> Graph
+pub fn graph(log: &[u8], table: &mut [Set; TRANSACTIONS]) -> Result<Set, Refusal>
     ensures gives_graph { GivesGraph log.now table.old result table.new }
     ensures graph_exactly { GraphExactly log.now table.old (graph_says result) table.new }
 {
