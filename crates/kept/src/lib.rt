@@ -79,18 +79,17 @@ impl Kept {
         ensures { KeptBefore log.now (k + 1) self.new }
     {
         let t = transaction_at(log, k);
-        if !self.named.has(t) {
-            self.named = self.named.with(t);
-            self.firsts[t] = k;
-        }
         if has_kind(log, k, Kind::Write) {
             let c = copy_at(log, k);
             self.copy_writers[c] = self.copy_writers[c].with(t);
             let x = item_at(log, k);
             self.item_writers[x] = self.item_writers[x].with(t);
-        }
-        if has_kind(log, k, Kind::Commit) {
+        } else if has_kind(log, k, Kind::Commit) {
             self.committed = self.committed.with(t);
+        }
+        if !self.named.has(t) {
+            self.named = self.named.with(t);
+            self.firsts[t] = k;
         }
     }
 
