@@ -49,11 +49,8 @@ pub fn source_of_record(log: &[u8], k: usize) -> Result<Option<Source>, Refusal>
     if record_count(log) <= k {
         return Err(Refusal::BadQuestion);
     }
-    match source_record(log, k) {
-        Some(e) => Ok(Some(Source {
-            transaction: record_at(log, e).transaction,
-            place: e,
-        })),
-        None => Ok(None),
-    }
+    Ok(source_record(log, k).map(|e| Source {
+        transaction: record_at(log, e).transaction,
+        place: e,
+    }))
 }

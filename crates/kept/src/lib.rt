@@ -72,7 +72,7 @@ impl Kept {
         Ok(())
     }
 
-    // Keeps record k.
+    // Keeps record k. Its kind comes first, which numbers 7 and 8 have just asked for: a branch is foretold best right behind its like.
     pub fn keep(&mut self, log: &[u8], k: usize)
         requires within { Within log.now k }
         requires kept { KeptBefore log.now k self.old }

@@ -1,16 +1,18 @@
 -- `checked_log::source::source_of_record` meets its contract: the check's refusal is passed on, then 10 is tried, and then the source record
 -- that the walk back finds is earlier than k, and so there.
-use Rattle.std.proofs.Common.{ap, arith, sym, ℕ, ◌<◌, ◌∙◌, ◌≡◌}
+use Rattle.std.proofs.Common.{Some, None, Ok, Option as Found, refl, rules, ap, arith, sym, ℕ, ◌<◌, ◌∙◌, ◌≡◌}
 use Rattle.std.proofs.Math.Option.{Option, some, none, map}
 use Rattle.std.proofs.lemmas.Result.{err_from_is_err_and}
+use Rattle.sets.specs.Search.{found_says}
 use Rattle.histories.specs.Source.{source, source_record, write_record}
 use Rattle.histories.proofs.Sources.{sourced}
 use Rattle.rules.specs.Answer.{gives}
 use Rattle.rules.specs.LogHistory.{history_of}
 use Rattle.rules.specs.Questions.{source_answer}
-use Rattle.rules.specs.Record.{records}
+use Rattle.rules.specs.Record.{records, transaction}
 use Rattle.rules.proofs.PassedLogs.{passed_passes}
 use Rattle.rules.proofs.Asked.{asked_refused, asked_past, asked}
+use Rattle.checked_log.specs.Numbers.{source_says}
 use Rattle.checked_log.proofs.source.source_of_record.Goals as goal
 use Rattle.checked_log.proofs.source.source_of_record.Goals.{Else-record_count-k}
 
@@ -38,16 +40,23 @@ answered c o e =
     ap (λ (x : Option ℕ). gives (map (write_record (history_of c.args.log.now)) x)) e
     ∙ sym (asked c.args.log.now c.args.k (sym c.in_ok-check.ensures) (there c))
 
-pub record_at-requires : goal.record_at-requires
-record_at-requires c =
-    let s = sourced (history_of c.args.log.now) c.args.k c.in-Some.e (sym c.in-Some.ensures) in
-    omega (arith, s.earlier, there (goal.at.record_at-requires c).Else-record_count-k)
+pub map-requires : goal.map-requires
+map-requires c =
+    let there : (e : ℕ) → c.source_record.result ≡ Some e → e < records c.args.log.now =
+    (λ e h. let s = sourced (history_of c.args.log.now) c.args.k e (sym c.source_record.ensures ∙ ap found_says h) in
+    omega (arith, s.earlier, there (goal.at.map-requires c).Else-record_count-k)) in
+    search rules
 
-pub returns-in-Some : goal.returns-in-Some
+pub returns : goal.returns
 unfolding write_record
-returns-in-Some c =
-    ap (λ (t : ℕ). gives (some (record { transaction = t; place = c.in-Some.e }))) c.record_at.ensures.1
-    ∙ answered (goal.at.returns-in-Some c).Else-record_count-k (some c.in-Some.e) c.in-Some.ensures
+returns c = go c.source_record.result refl
+  where
+    told : (e : ℕ) → c.source_record.result ≡ Some e → c.map.result ≡ Some (record { transaction = transaction c.args.log.now e; place = e })
+    told e h = search rules
 
-pub returns-in-None : goal.returns-in-None
-returns-in-None c = answered (goal.at.returns-in-None c).Else-record_count-k none c.in-None.ensures
+    nothing : c.source_record.result ≡ None → c.map.result ≡ None
+    nothing h = search rules
+
+    go : (r : Found ℕ) → c.source_record.result ≡ r → source_says (Ok c.map.result) ≡ source_answer c.args.log.now c.args.k
+    go (Some e) h = rw (told e h) (answered (goal.at.returns c).Else-record_count-k (some e) (sym (ap found_says h) ∙ c.source_record.ensures))
+    go None h = rw (nothing h) (answered (goal.at.returns c).Else-record_count-k none (sym (ap found_says h) ∙ c.source_record.ensures))
