@@ -1,6 +1,6 @@
 -- What the check keeps, from record k to record k + 1: each law takes the sets as the code stores them. A set gains the record's
 -- transaction where the record counts, and stays where it does not.
-use Prim.Native.Nat.{ℕ, ◌+◌, ◌<◌}
+use Prim.Native.Nat.{ℕ, ◌+◌, ◌*◌, ◌<◌}
 use native.Mathlib.Omega.{arith}
 use mathlib.Core.Path.{◌≡◌, refl, sym, ◌∙◌, ap, ap₂}
 use mathlib.Core.List.{List}
@@ -10,7 +10,7 @@ use lib.Dec.{eqb}
 use lib.ListN.{get_or, set, replicate, length-set, length-replicate}
 use lib.Seq.{get_or-set_same, get_or-set_other}
 use native.Mathlib.Decide.{ℕ_discrete}
-use borrow.Author.Tests.{eq-eqb, ne_eqb}
+use borrow.Author.Tests.{eq-eqb, ne_eqb, eqb-true}
 use Rattle.sets.specs.Search.{some_below, first_below}
 use Rattle.sets.specs.Bits.{has}
 use Rattle.sets.proofs.Truth.{clash, and_swap, or_nothing}
@@ -18,13 +18,13 @@ use Rattle.sets.proofs.Searches.{some_more, some_zero, none_some, first_hit, fir
 use Rattle.sets.proofs.Members.{has_zero}
 use Rattle.sets.proofs.Tables.{holds_none}
 use Rattle.sets.proofs.Gathered.{added_store, set_none_below, set_below_more, set_below_stays, none_below, below_more, below_stays}
-use Rattle.histories.specs.History.{is_by}
-use Rattle.histories.proofs.OfTransactions.{by_is, own_added, none_added}
+use Rattle.histories.specs.History.{is_by, writes_copy, writes_item}
+use Rattle.histories.proofs.OfTransactions.{by_is, own_added, none_added, copy_silent, item_silent}
 use Rattle.rules.specs.LogHistory.{named, history_of}
-use Rattle.rules.specs.Record.{transactions, transaction, is_commit}
+use Rattle.rules.specs.Record.{transactions, items, sites, kind, transaction, is_write, is_commit, write_kind, commit_kind}
 use Rattle.std.proofs.lemmas.Grind.{get_or_default_zero}
 use Rattle.kept.specs.declared.Kept.{Kept}
-use Rattle.kept.specs.Kept.{KeptWriters, KeptCopies, KeptItems, KeptCommits, KeptNames}
+use Rattle.kept.specs.Kept.{KeptWriters, KeptCopies, KeptItems, KeptCommits, KeptNames, KeptBefore}
 
 module _ (log : List ℕ) (writes : ℕ → ℕ → Bool) (wide : ℕ) where
   abbrev says_writer : ℕ → ℕ → ℕ → Bool
@@ -47,6 +47,11 @@ module _ (log : List ℕ) (writes : ℕ → ℕ → Bool) (wide : ℕ) where
     -- a record that writes nothing adds nothing
     pub writers_stay : ((c : ℕ) → writes k c ≡ false) → KeptWriters log writes wide (k + 1) table
     writers_stay e = below_stays wide says_writer k w (λ c t. none_added (history_of log) k (writes k c) (e c) t)
+
+-- a write is no commit
+pub write_no_commit : (log : List ℕ) (k : ℕ) → is_write log k ≡ true → is_commit log k ≡ false
+unfolding is_write is_commit write_kind commit_kind
+write_no_commit log k w = let e = eqb-true (kind log k) 2 w in ne_eqb (kind log k) 3 (λ q. absurd (omega arith))
 
 -- commits
 module _ (log : List ℕ) where
@@ -120,9 +125,17 @@ module _ (log : List ℕ) (k names : ℕ) (firsts : List ℕ) (w : KeptNames log
           older : named log t k ≡ true
           older = sym (more t ∙ ap (λ (b : Bool). named log t k || b) (ne_eqb own t (λ r. e (sym r))) ∙ or_nothing (named log t k)) ∙ q
 
--- in the midst of a record: the names of the records before n are kept, the writes of those before w, the commits of those before m
-pub record KeptParts (log : List ℕ) (n w m : ℕ) (kept : Kept) : Type 0 where
-  pub copies : KeptCopies log w kept.copy_writers
-  pub items : KeptItems log w kept.item_writers
-  pub names : KeptNames log n kept.named kept.firsts
-  pub commits : KeptCommits log m kept.committed
+-- in the midst of record k: all of it is kept but its name
+pub record NameLeft (log : List ℕ) (k : ℕ) (kept : Kept) : Type 0 where
+  pub copies : KeptCopies log (k + 1) kept.copy_writers
+  pub items : KeptItems log (k + 1) kept.item_writers
+  pub names : KeptNames log k kept.named kept.firsts
+  pub commits : KeptCommits log (k + 1) kept.committed
+
+-- a record that is no write leaves the writers as they are
+module _ (log : List ℕ) (k : ℕ) (kept : Kept) (w : KeptBefore log k kept) (silent : is_write log k ≡ false) where
+  pub same_copies : KeptCopies log (k + 1) kept.copy_writers
+  same_copies = writers_stay log (writes_copy (history_of log)) (items * sites) k kept.copy_writers w.copies (copy_silent (history_of log) k silent)
+
+  pub same_items : KeptItems log (k + 1) kept.item_writers
+  same_items = writers_stay log (writes_item (history_of log)) items k kept.item_writers w.items (item_silent (history_of log) k silent)

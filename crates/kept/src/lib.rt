@@ -41,7 +41,7 @@ impl Kept {
 
     // Numbers 6 to 8 at a record, which is of right form.
     pub fn history_answer(&self, r: &Record<'_>) -> Result<(), Refusal>
-        requires kept { KeptBefore r.now.log r.now.place self.now }
+        requires { KeptBefore r.now.log r.now.place self.now }
         ensures { checked_says result ≡ answer_of (history_rows (history_of r.now.log) r.now.place) }
     {
         if self.committed.has(r.transaction()) {
@@ -70,24 +70,23 @@ impl Kept {
         Ok(())
     }
 
-    // Keeps a record.
+    // Keeps a record. Its kind comes first, which numbers 7 and 8 have just asked for: a branch is foretold best right behind its like.
     pub fn keep(&mut self, r: &Record<'_>)
-        requires kept { KeptBefore r.now.log r.now.place self.old }
+        requires { KeptBefore r.now.log r.now.place self.old }
         ensures { KeptBefore r.now.log (r.now.place + 1) self.new }
     {
         let t = r.transaction();
-        if !self.named.has(t) {
-            self.named = self.named.with(t);
-            self.firsts[t] = r.place();
-        }
         if r.is(Kind::Write) {
             let c = r.copy();
             self.copy_writers[c] = self.copy_writers[c].with(t);
             let x = r.item();
             self.item_writers[x] = self.item_writers[x].with(t);
-        }
-        if r.is(Kind::Commit) {
+        } else if r.is(Kind::Commit) {
             self.committed = self.committed.with(t);
+        }
+        if !self.named.has(t) {
+            self.named = self.named.with(t);
+            self.firsts[t] = r.place();
         }
     }
 
