@@ -3,4 +3,4 @@
 #![tactic(auto)]
 
 pub mod cycle;
-pub mod part;
+mod part;

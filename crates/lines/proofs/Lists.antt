@@ -3,7 +3,7 @@
 use Prim.Native.Nat.{ℕ, zero, suc, ◌+◌, ◌<◌, ◌≤◌}
 use native.Mathlib.Omega.{arith}
 use native.Mathlib.Decide.{ℕ_discrete}
-use mathlib.Core.Path.{◌≡◌, refl, sym, ◌∙◌, ap, subst}
+use mathlib.Core.Path.{◌≡◌, refl, sym, ◌∙◌, ap}
 use mathlib.Core.Bool.{Bool, true, false, ◌||◌}
 use mathlib.Core.Logic.{◌⊎◌, inl, inr, ⊎_elim}
 use mathlib.Core.List.{List, [], ◌∷◌, ◌++◌}
@@ -102,10 +102,6 @@ pub record UpTo (s : ℕ) (xs : List ℕ) : Type 0 where
   pub part : up_to s xs ≡ before ++ s ∷ []
   pub place : place_of s xs ≡ length before
 
-pub place_nil : (s : ℕ) → place_of s [] ≡ 0
-unfolding place_of
-place_nil s = refl
-
 pub place_same : (x : ℕ) (xs : List ℕ) (s : ℕ) → x ≡ s → place_of s (x ∷ xs) ≡ 0
 unfolding place_of
 place_same x xs s q = rw (eq-eqb x s q) refl
@@ -148,23 +144,6 @@ place_entry s xs h =
     ap (λ (k : ℕ). get_or xs k 0) u.place
     ∙ ap (λ (ys : List ℕ). get_or ys (length u.before) 0) u.whole
     ∙ get_or-append_seam u.before s u.after 0
-
--- a place where s stands, and no s before it
-pub place_is : (s : ℕ) (xs : List ℕ) (k : ℕ) → k < length xs → get_or xs k 0 ≡ s → ((j : ℕ) → j < k → get_or xs j 0 ≡ s → ⊥) → place_of s xs ≡ k
-place_is s [] k l e h = absurd (omega arith)
-place_is s (x ∷ xs) zero l e h = place_same x xs s e
-place_is s (x ∷ xs) (suc k) l e h =
-    place_other x xs s (h 0 (omega arith)) ∙ ap suc (place_is s xs k (omega (arith, l)) e (λ j m. h (suc j) (omega (arith, m))))
-
--- no s stands before it
-pub place_before : (s : ℕ) (xs : List ℕ) (j : ℕ) → j < place_of s xs → get_or xs j 0 ≡ s → ⊥
-place_before s [] j l e = omega (arith, subst (λ (k : ℕ). j < k) (place_nil s) l)
-place_before s (x ∷ xs) j l e = go (ℕ_discrete x s) j l e (λ i. place_before s xs i)
-  where
-    go : Dec (x ≡ s) → (j : ℕ) → j < place_of s (x ∷ xs) → get_or (x ∷ xs) j 0 ≡ s → ((i : ℕ) → i < place_of s xs → get_or xs i 0 ≡ s → ⊥) → ⊥
-    go (yes q) j l e ih = omega (arith, subst (λ (k : ℕ). j < k) (place_same x xs s q) l)
-    go (no q) zero l e ih = q e
-    go (no q) (suc i) l e ih = ih i (omega (arith, subst (λ (k : ℕ). suc i < k) (place_other x xs s q) l)) e
 
 -- an entry is among the list
 pub among_entry : (xs : List ℕ) (k : ℕ) → k < length xs → among xs (get_or xs k 0) ≡ true

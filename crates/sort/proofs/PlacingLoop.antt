@@ -1,4 +1,4 @@
--- The state of the placing. While the line is made, what is still to be placed and written is what the rule places from those left.
+-- The state of the placing. While the line is made, what is still to be placed is what the rule places from those left.
 use Prim.Native.Nat.{ℕ, suc, ◌+◌, ◌-◌, ◌<◌, ◌≤◌}
 use native.Mathlib.Omega.{arith}
 use mathlib.Core.Path.{◌≡◌, sym, ◌∙◌, ap, subst}

@@ -12,7 +12,6 @@ use Rattle.std.specs.Prelude.{Some, None}
 use Rattle.sets.specs.Bits.{numbers}
 use Rattle.sets.specs.Search.{without}
 use Rattle.lines.specs.Rule.{next, lowest_predecessor}
-use Rattle.lines.specs.Lines.{Below}
 use Rattle.lines.proofs.Waiting.{Free, Tried, free_on, free_past, first_is_lowest, tried_on, ready_found, none_found}
 use Rattle.cycles.specs.WaitsFor.{Kept}
 use Rattle.sort.specs.Searched.{Searched}

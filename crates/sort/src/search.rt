@@ -11,7 +11,11 @@ use sets::{NUMBERS, Set};
 // 64 × 64 times in vain for an edge, and each of them at most once more for each transaction. Where none is ready, the predecessors found
 // are the lowest.
 #[tactic(auto, using(crate::proofs::Waits::found_after, crate::proofs::Waits::found_low))]
-pub(crate) fn lowest_ready(table: &[Set; NUMBERS], left: Set, waits: &mut [u8; NUMBERS]) -> Option<usize>
+pub(crate) fn lowest_ready(
+    table: &[Set; NUMBERS],
+    left: Set,
+    waits: &mut [u8; NUMBERS],
+) -> Option<usize>
     requires kept { Kept waits.old }
     requires searched { Searched (in_row table.now) (has left) waits.old }
     ensures { FindsReady (in_row table.now) (has left) result waits.new }

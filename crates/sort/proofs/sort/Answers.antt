@@ -28,8 +28,8 @@ returns-in-None c =
     let edge = in_row c.args.table.now in
     let set = has c.args.set in
     let all = c.place_all-placed in
-    let none_left = none_found_from (has all.result.left) 0 c.in-None.ensures in
-    let is_line = ends_in_line numbers edge set (has all.result.left) all.ensures.same_rest (λ t l. none_left t (omega arith) l) in
+    let none_left = none_found_from _ _ c.in-None.ensures in
+    let is_line = ends_in_line numbers _ _ _ all.ensures.same_rest (λ t l. none_left t (omega arith) l) in
     let is_long = c.len-count.ensures.value ∙ ap length all.ensures.is_placed in
     record {
       says = ap line is_long ∙ sym (ap length_of is_line);
@@ -43,13 +43,11 @@ returns-in-None c =
 -- one is left: the cycle is written that is found from it
 pub returns-in-Some : goal.returns-in-Some
 returns-in-Some c =
-    let edge = in_row c.args.table.now in
-    let set = has c.args.set in
     let all = c.place_all-placed in
-    let first = first_found (has all.result.left) 0 c.in-Some.ensures in
+    let first = first_found _ _ c.in-Some.ensures in
     let is_cycle =
-        ends_in_cycle numbers edge set (has all.result.left) all.ensures.same_rest (back all.new.waits) all.ensures.blocked c.in-Some.first
-        first.below first.passes (λ u m. first.none_before u (omega arith) m)
+    ends_in_cycle numbers _ _ _ all.ensures.same_rest (back all.new.waits) all.ensures.blocked c.in-Some.first
+    first.below first.passes (λ u m. first.none_before u (omega arith) m)
     in
     record {
       says = ap cycle c.write_cycle.ensures.counted ∙ sym (ap length_of is_cycle);

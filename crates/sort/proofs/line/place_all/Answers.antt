@@ -23,7 +23,7 @@ loop-t-smaller c =
 pub loop-t-preserved : goal.loop-t-preserved
 loop-t-preserved c =
     rw c.push.ensures.items
-    (placing_on _ _ c.loop-t.invariant c.in-Some.ensures (taken c.loop-t.left c.without-left.result c.in-Some.t c.without-left.ensures))
+    (placing_on _ _ c.loop-t.invariant c.in-Some.ensures (taken _ _ _ c.without-left.ensures))
 
 pub returns : goal.returns
 returns c = placing_done _ _ c.loop-t.invariant c.in_default.ensures
