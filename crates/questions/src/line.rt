@@ -5,6 +5,7 @@ use checked_log::source::source_of_record;
 use edges::graph::edge_between;
 use printing::line::{numbers_line, refusal_line};
 use printing::room::Line;
+use tables::reasons::Reason;
 
 // The source of record k: the transaction and the place of the write that it reads; none for a write or a commit; or a refusal.
 #[tactic(auto, unfolding(crate::specs::Text::printed_source, crate::specs::Text::source_line, crate::specs::Text::none_word, printing::specs::Lines::newline))]
