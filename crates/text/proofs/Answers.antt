@@ -1,23 +1,27 @@
 -- Laws of the whole text: a verdict's records are where its text reads them, and what is printed is the text of what the verdict says.
-use Prim.Native.Nat.{ℕ, ◌*◌, ◌/◌, ◌<◌, ◌≤◌}
+use Prim.Native.Nat.{ℕ, ◌+◌, ◌*◌, ◌/◌, ◌<◌, ◌≤◌}
 use native.Mathlib.Omega.{arith}
 use mathlib.Core.Path.{◌≡◌, refl, sym, ◌∙◌, ap, ap₂, subst}
 use mathlib.Core.Bool.{Bool, true, false}
 use mathlib.Core.List.{List, ◌++◌}
-use lib.ListN.{length, take}
-use lib.Seq.{sets, length-sets, length-take-le}
+use lib.ListN.{length, take, drop, get_or, get_or-append}
+use lib.Seq.{sets, sets-eq, length-sets, length-take-le}
 use Rattle.rules.specs.Answer.{Answer, gives, refused}
 use Rattle.rules.specs.Record.{transactions}
 use Rattle.lines.specs.Rule.{LineOrCycle, line, cycle, members_of, length_of}
 use Rattle.answers.specs.Verdict.{most_answer, record_size, entry, verdict_check, line_or_cycle, verdict_answer, answer_records, how_many}
 use Rattle.answers.proofs.VerdictRows.{check_passes, enough_room, answer_refused, answer_given}
 use Rattle.answers.proofs.AnswerRecords.{records_long, ordered_fits}
-use Rattle.verdict.proofs.Written.{in_front}
 use Rattle.printing.specs.Lines.{first_line, refusal_line, record_lines}
 use Rattle.printing.proofs.Lines.{lines_same}
 use Rattle.std.proofs.lemmas.List.{get_or-take}
 use Rattle.text.specs.Text.{serial_word, cycle_word, printed_answer, printed_with, printed}
 use Rattle.text.specs.Kept.{Lent}
+
+-- what is written to the front of a buffer stands there
+in_front : (xs old : List ℕ) → length xs ≤ length old → (k : ℕ) → k < length xs → entry (sets old 0 xs) k ≡ entry xs k
+in_front xs old fits k l =
+    ap (λ (ys : List ℕ). get_or ys k 0) (sets-eq xs old 0 (omega (arith, fits))) ∙ get_or-append xs (drop (0 + length xs) old) 0 k l
 
 -- the text of each answer
 pub line_text : (n : ℕ) (answer : List ℕ) → printed_answer (gives (line n)) answer ≡ first_line serial_word n ++ record_lines false answer n
