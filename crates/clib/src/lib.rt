@@ -65,7 +65,7 @@ pub struct CodedVerdict {
 pub const NONE: u64 = MOST_RECORDS as u64;
 
 impl From<Refusal> for Coded {
-    ghost from_gives = { λ r coded. coded ≡ coded_refusal (number_of r) (place_of r) };
+    ghost from_gives = { λ r numbers. numbers ≡ coded_refusal (number_of r) (place_of r) };
 
     fn from(r: Refusal) -> Coded
         ensures { result ≡ coded_refusal (number_of r) (place_of r) }
