@@ -124,7 +124,7 @@ impl From<Result<Option<Source>, Refusal>> for CodedSource {
             Ok(Some(source)) => CodedSource {
                 number: 0,
                 place: 0,
-                transaction: u64::from(source.transaction),
+                transaction: source.transaction as u64,
                 record: source.place as u64,
             },
             Ok(None) => CodedSource {

@@ -5,7 +5,7 @@ use checked_log::source::source_of_record;
 use edges::graph::edge_between;
 use printing::line::{numbers_line, refusal_line};
 use printing::room::Line;
-use tables::reasons::Reason;
+use writing::reason_byte;
 
 // The source of record k: the transaction and the place of the write that it reads; none for a write or a commit; or a refusal.
 #[tactic(auto, unfolding(crate::specs::Text::printed_source, crate::specs::Text::source_line, crate::specs::Text::none_word, printing::specs::Lines::newline))]
@@ -29,7 +29,7 @@ pub fn edge_text(log: &[u8], i: usize, j: usize) -> Line
     ensures { PrintsEdge log.now i j result }
 {
     match edge_between(log, i, j) {
-        Ok(reason) => numbers_line(reason.map_or(0, Reason::number).into(), None),
+        Ok(reason) => numbers_line(reason_byte(reason).into(), None),
         Err(why) => refusal_line(why.number(), why.place()),
     }
 }
