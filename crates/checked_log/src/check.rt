@@ -13,6 +13,7 @@ use refusals::form::form_answer;
 use refusals::refusal::Refusal;
 
 // Numbers 4 to 8 at record k, by what is kept of those before it.
+#[tactic(auto, using(rules::proofs::Table::within_formed, crate::proofs::Passing::form_refuses, crate::proofs::Passing::form_passes))]
 fn record_answer(log: &[u8], k: usize, kept: &Kept) -> Result<(), Refusal>
     requires there { k < records log.now }
     requires kept { KeptBefore log.now k kept.now }
@@ -23,6 +24,7 @@ fn record_answer(log: &[u8], k: usize, kept: &Kept) -> Result<(), Refusal>
 }
 
 // Numbers 1 and 2, which look at the length alone.
+#[tactic(auto, using(rules::proofs::Lengths::gives_1, rules::proofs::Lengths::gives_2, rules::proofs::Lengths::gives_neither))]
 pub fn length_answer(log: &[u8]) -> Result<(), Refusal>
     ensures { ChecksLength log.now result }
 {
@@ -37,6 +39,7 @@ pub fn length_answer(log: &[u8]) -> Result<(), Refusal>
 }
 
 // Numbers 4 to 9: one pass over the records, a fixed number of steps for each, and a look at what is left after the last.
+#[tactic(auto, using(rules::proofs::Rows::over_step, rules::proofs::Table::within_passed, rules::proofs::Table::content_refused, rules::proofs::Table::content_ends))]
 pub fn content_answer(log: &[u8]) -> Result<(), Refusal>
     ensures { ChecksContent log.now result }
 {
@@ -49,6 +52,7 @@ pub fn content_answer(log: &[u8]) -> Result<(), Refusal>
 }
 
 // The first number that applies to the log, with its place; or it has passed. Any bytes may stand in it.
+#[tactic(auto, using(rules::proofs::Table::check_length, rules::proofs::Table::check_content))]
 pub fn check(log: &[u8]) -> Result<(), Refusal>
     ensures { ChecksLog log.now result }
 {

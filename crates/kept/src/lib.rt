@@ -40,6 +40,7 @@ impl Kept {
     }
 
     // Numbers 6 to 8 at a record, which is of right form.
+    #[tactic(auto, using(crate::proofs::TestsKept::refuses_6, crate::proofs::TestsKept::not_6, rules::proofs::Table::other_passes))]
     pub fn history_answer(&self, r: &Record<'_>) -> Result<(), Refusal>
         requires { KeptBefore r.now.log r.now.place self.now }
         ensures { checked_says result ≡ answer_of (history_rows (history_of r.now.log) r.now.place) }
@@ -54,6 +55,7 @@ impl Kept {
     }
 
     // Numbers 7 and 8 at a read.
+    #[tactic(auto, using(crate::proofs::TestsKept::refuses_7, crate::proofs::TestsKept::refuses_8, crate::proofs::TestsKept::passes_own, crate::proofs::TestsKept::passes_others))]
     fn read_answer(&self, r: &Record<'_>) -> Result<(), Refusal>
         requires reads { is_read r.now.log r.now.place ≡ true }
         requires kept { KeptBefore r.now.log r.now.place self.now }
@@ -91,6 +93,7 @@ impl Kept {
     }
 
     // Number 9, where what is kept is that of a whole log: the lowest-numbered transaction that is named and has not committed.
+    #[tactic(auto, using(crate::proofs::EndKept::next_there, crate::proofs::EndKept::refuses_9, crate::proofs::EndKept::all_commit))]
     pub fn end_answer(&self) -> Result<(), Refusal>
         ensures { (log : List ℕ) → KeptBefore log (records log) self.now → checked_says result ≡ answer_of (end_rows log) }
     {
