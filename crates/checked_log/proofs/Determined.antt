@@ -11,8 +11,8 @@ use Rattle.rules.specs.Answer.{Answer, gives, refused}
 use Rattle.rules.proofs.Answers.{said_number, said_place}
 use Rattle.refusals.specs.declared.refusal.Refusal.{Refusal}
 use Rattle.refusals.proofs.Determined.{same_refusal, no_zero, same_checked}
-use Rattle.checked_log.specs.Numbers.{source_says}
-use Rattle.checked_log.specs.Promises.{ChecksLength, ChecksContent, ChecksLog, FindsSource, TellsSource}
+use Rattle.checked_log.specs.Numbers.{passed_says, source_says}
+use Rattle.checked_log.specs.Promises.{ChecksLength, ChecksContent, ChecksLog, ChecksPassed, FindsSource, TellsSource}
 use Rattle.checked_log.specs.declared.source.Source.{Source as Told}
 
 -- what a source's answer holds: its transaction and its place, each with one added, or 0 for none
@@ -43,6 +43,12 @@ same_source (Err r) (Ok (Some t)) e = absurd (no_zero r (ap said_number e))
 same_source (Err r) (Ok None) e = absurd (no_zero r (ap said_number e))
 same_source (Err r) (Err s) e = ap Err (same_refusal r s (ap said_number e) (ap said_place e))
 
+pub same_passed : (a b : Result (List ℕ) Refusal) → passed_says a ≡ passed_says b → a ≡ b
+same_passed (Ok l) (Ok m) e = let q : l ≡ m = cc in ap Ok q
+same_passed (Ok l) (Err s) e = absurd (no_zero s (sym (ap said_number e)))
+same_passed (Err r) (Ok m) e = absurd (no_zero r (ap said_number e))
+same_passed (Err r) (Err s) e = ap Err (same_refusal r s (ap said_number e) (ap said_place e))
+
 pub same_found : (a b : Found ℕ) → found_says a ≡ found_says b → a ≡ b
 same_found (Some e) (Some f) h = let q : e ≡ f = cc in ap Some q
 same_found (Some e) None h = let z : ◌≡◌ {A = ℕ} 0 1 = cc in absurd (omega arith)
@@ -58,6 +64,10 @@ length_determined log a b p q = same_checked a b (p ∙ sym q)
 
 pub content_determined : (log : List ℕ) (a b : Result (Unit {0}) Refusal) → ChecksContent log a → ChecksContent log b → a ≡ b
 content_determined log a b p q = same_checked a b (p ∙ sym q)
+
+-- THEOREM: any two answers that `Passed::check` promises for a log are equal
+pub passed_determined : (log : List ℕ) (a b : Result (List ℕ) Refusal) → ChecksPassed log a → ChecksPassed log b → a ≡ b
+passed_determined log a b p q = same_passed a b (p ∙ sym q)
 
 -- THEOREM: any two answers that `source_of_record` promises for a log and a number are equal
 pub source_determined : (log : List ℕ) (k : ℕ) (a b : Result (Found Told) Refusal) → TellsSource log k a → TellsSource log k b → a ≡ b

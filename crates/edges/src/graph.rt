@@ -32,7 +32,7 @@ pub fn edges_by_reason(passed: &Passed<'_>) -> LogEdges
     let by_conflict = conflicts(&log);
     let (by_order, by_read) = order_edges(&log, &order);
     LogEdges {
-        members: order.members(),
+        members: order.committed,
         by_reason: ReasonTables {
             by_conflict,
             by_order,

@@ -2,7 +2,7 @@
 ghost use Rattle.std.specs.Prelude.{◌≡◌, ℕ, ◌+◌, ◌<◌, List};
 ghost use Rattle.sets.specs.Bits.{has};
 ghost use Rattle.histories.specs.Order.{writer_after};
-ghost use Rattle.rules.specs.LogHistory.{in_log, history_of};
+ghost use Rattle.rules.specs.LogHistory.{history_of};
 ghost use Rattle.rules.specs.Record.{records, transactions, item};
 ghost use Rattle.orders.specs.Kept.{KeptFrom, KeptOrder};
 
@@ -13,12 +13,12 @@ use sets::Set;
 use tables::add::{add_to_row, add_writer};
 
 // For each item the transactions that write it, and for each transaction those that commit after it. The writers of an item come in the
-// order of their commits. Beside them stand all that commit.
+// order of their commits. Beside them stand all that commit: of a whole log these are its transactions.
 #[derive(Drop)]
 pub struct WriteOrder {
     writers: [Set; Copy::ITEMS],
     after: [Set; TRANSACTIONS],
-    committed: Set,
+    pub committed: Set,
 }
 
 impl WriteOrder {
@@ -56,13 +56,6 @@ impl WriteOrder {
             add_to_row(r, self.committed, &mut self.after);
             self.committed = self.committed.with(r.transaction());
         }
-    }
-
-    // The set of the log's transactions: each of them commits.
-    pub fn members(&self) -> Set
-        ensures { (log : List ℕ) → KeptOrder log self.now → (t : ℕ) → has result t ≡ in_log log t }
-    {
-        self.committed
     }
 
     // The writers of the record's item that come after s in its write order.

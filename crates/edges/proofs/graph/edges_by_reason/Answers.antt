@@ -4,4 +4,4 @@ use Rattle.edges.proofs.graph.edges_by_reason.Goals as goal
 
 pub returns-clause-members : goal.returns-clause-members
 returns-clause-members c =
-    only_members c.args.passed.now c.log-log.ensures.passes.in_limits c.members.result (c.members.ensures c.args.passed.now c.of_log-order.ensures)
+    only_members c.args.passed.now c.log-log.ensures.passes.in_limits c.of_log-order.result.committed c.of_log-order.ensures.members
