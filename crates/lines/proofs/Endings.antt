@@ -10,13 +10,13 @@ use Rattle.lines.proofs.Chosen.{predecessor_left, lowest_is}
 use Rattle.lines.proofs.Clauses.{sorted_line, sorted_cycle, walk_zero, walk_lost, walk_ends, walk_goes}
 
 -- two walks that go the same way from each of a set, and never leave it
-pub walk_same : (f g : ℕ → Option ℕ) (P : ℕ → Type 0) → ((t : ℕ) → P t → f t ≡ g t)
-    → ((t s : ℕ) → P t → f t ≡ some s → P s)
-    → (m t : ℕ) (path : List ℕ) → P t → walk f m t path ≡ walk g m t path
-walk_same f g P e stays zero t path h = walk_zero f t path ∙ sym (walk_zero g t path)
-walk_same f g P e stays (suc m) t path h = go (f t) refl (λ s k. walk_same f g P e stays m s (s ∷ path) k)
+pub walk_same : (f g : ℕ → Option ℕ) (p : ℕ → Bool) → ((t : ℕ) → p t ≡ true → f t ≡ g t)
+    → ((t s : ℕ) → p t ≡ true → f t ≡ some s → p s ≡ true)
+    → (m t : ℕ) (path : List ℕ) → p t ≡ true → walk f m t path ≡ walk g m t path
+walk_same f g p e stays zero t path h = walk_zero f t path ∙ sym (walk_zero g t path)
+walk_same f g p e stays (suc m) t path h = go (f t) refl (λ s k. walk_same f g p e stays m s (s ∷ path) k)
   where
-    go : (o : Option ℕ) → f t ≡ o → ((s : ℕ) → P s → walk f m s (s ∷ path) ≡ walk g m s (s ∷ path))
+    go : (o : Option ℕ) → f t ≡ o → ((s : ℕ) → p s ≡ true → walk f m s (s ∷ path) ≡ walk g m s (s ∷ path))
         → walk f (suc m) t path ≡ walk g (suc m) t path
     go none q ih = walk_lost f m t path q ∙ sym (walk_lost g m t path (sym (e t h) ∙ q))
     go (some s) q ih = met (among path s) refl
@@ -31,16 +31,13 @@ module _ (n : ℕ) (edge : ℕ → ℕ → Bool) (set left : ℕ → Bool) (same
   ends_in_line none_left = sorted_line n edge set (λ t l. sym (same t) ∙ none_left t l)
 
   -- one left
-  module _ (back : ℕ → Option ℕ) (is_lowest : (t : ℕ) → t < n → left t ≡ true → lowest_predecessor n edge left t ≡ back t)
+  module _ (back : ℕ → Option ℕ) (is_lowest : (t : ℕ) → left t ≡ true → lowest_predecessor n edge left t ≡ back t)
       (t : ℕ) (low : t < n) (there : left t ≡ true) (none_before : (u : ℕ) → u < t → left u ≡ false) where
-    abbrev Left : ℕ → Type 0
-    Left u = (u < n) × (left u ≡ true)
-
-    stays : (u s : ℕ) → Left u → lowest_predecessor n edge left u ≡ some s → Left s
-    stays u s h e = let w = lowest_is edge n left u s e in (w.below, predecessor_left edge left u s w.precedes)
+    stays : (u s : ℕ) → left u ≡ true → lowest_predecessor n edge left u ≡ some s → left s ≡ true
+    stays u s h e = predecessor_left edge left u s (lowest_is edge n left u s e).precedes
 
     same_walk : walk (lowest_predecessor n edge left) n t (t ∷ []) ≡ walk back n t (t ∷ [])
-    same_walk = walk_same (lowest_predecessor n edge left) back Left (λ u h. is_lowest u h.0 h.1) stays n t (t ∷ []) (low, there)
+    same_walk = walk_same (lowest_predecessor n edge left) back left is_lowest stays n t (t ∷ []) there
 
     pub ends_in_cycle : sorted n edge set ≡ cycle (to_lowest (walk back n t (t ∷ [])))
     ends_in_cycle =

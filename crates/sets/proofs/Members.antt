@@ -11,7 +11,7 @@ use lib.Arith.{digits_mod, bin_ind}
 use lib.Bits.{bit_or, or_shr, or_step, bit_and, and_shr, and_step, bit_xor, differ, xor_shr, xor_step}
 use lib.Pow.{shr-shr, pow-lt, pow_mono, pow-add, pow_pos, shl-shr, shl_exact}
 use borrow.Author.Tests.{eq-eqb, ne_eqb, eqb-false}
-use Rattle.sets.specs.Bits.{has}
+use Rattle.sets.specs.Bits.{numbers, has}
 use Rattle.sets.proofs.Truth.{clash}
 
 -- what holds of the four pairs of binary digits holds of any two
@@ -140,6 +140,10 @@ has_low x k i l h = go (dec_lt i k)
     go : Dec (i < k) → i < k
     go (yes m) = m
     go (no m) = absurd (clash (has x i) h (past (omega (arith, m))))
+
+-- so a set, seen as the number of its bits, has only numbers below 64
+pub members_low : (bits self : ℕ) → bits ≡ self → bits < 2 ^ 64 → (t : ℕ) → has self t ≡ true → t < numbers
+members_low bits self e l t h = has_low self 64 t (omega (arith, e, l)) h
 
 -- two sets with the same members are one number
 halves : (x y : ℕ) → x / 2 ≡ y / 2 → has x 0 ≡ has y 0 → x ≡ y

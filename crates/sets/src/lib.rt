@@ -1,7 +1,7 @@
 // Sets of numbers below 64, each as the bits of a u64.
 #![tactic(auto)]
 
-ghost use Rattle.std.specs.Prelude.{◌≡◌, ◌&&◌, ◌||◌, not, ℕ, ◌<◌, ◌^◌, eqb};
+ghost use Rattle.std.specs.Prelude.{◌≡◌, ◌&&◌, ◌||◌, not, true, ℕ, ◌<◌, ◌^◌, eqb};
 ghost use Rattle.sets.specs.Bits.{numbers, has};
 ghost use Rattle.sets.specs.Search.{next_from, found_says};
 
@@ -101,14 +101,17 @@ impl Set {
         if test { self } else { Set::EMPTY }
     }
 
-    // The lowest number that the set has from the given one on, if it has one.
+    // The lowest number that the set has from the given one on, if it has one. A caller also learns that all its numbers are below 64.
+    #[tactic(auto, using(crate::proofs::Members::members_low))]
     pub fn next_from(self, from: usize) -> Option<usize>
-        ensures { found_says result ≡ next_from from numbers (has self) }
+        ensures found { found_says result ≡ next_from from numbers (has self) }
+        ensures low { (t : ℕ) → has self t ≡ true → t < numbers }
     {
+        let bits = self.bits;
         if NUMBERS <= from {
             return None;
         }
-        let above = self.bits >> from;
+        let above = bits >> from;
         if above == 0 {
             return None;
         }

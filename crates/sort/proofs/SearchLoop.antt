@@ -12,6 +12,7 @@ use Rattle.std.specs.Prelude.{Some, None}
 use Rattle.sets.specs.Bits.{numbers}
 use Rattle.sets.specs.Search.{without}
 use Rattle.lines.specs.Rule.{next, lowest_predecessor}
+use Rattle.lines.specs.Lines.{Below}
 use Rattle.lines.proofs.Waiting.{Free, Tried, free_on, free_past, first_is_lowest, tried_on, ready_found, none_found}
 use Rattle.cycles.specs.WaitsFor.{Kept}
 use Rattle.sort.specs.Searched.{Searched}
@@ -48,13 +49,13 @@ module _ (edge : ℕ → ℕ → Bool) (left : ℕ → Bool) where
         }
 
     -- none is left from k on: all wait
-    pub finds_none : ((u : ℕ) → k ≤ u → u < numbers → left u ≡ false) → FindsReady edge left None waits
-    finds_none none_left =
+    pub finds_none : Below numbers left → ((u : ℕ) → k ≤ u → u < numbers → left u ≡ false) → FindsReady edge left None waits
+    finds_none low none_left =
         record {
           says = sym (none_found numbers edge left (kept_in waits) all);
           kept = trying.kept;
           searched = trying.searched;
-          blocked = λ e. all;
+          blocked = λ e t h. all t (low t h) h;
         }
       where
         all : Tried numbers edge left (kept_in waits) numbers

@@ -10,4 +10,4 @@ Searched edge left waits = (t s : ℕ) → s < get_or waits t 0 → predecessor 
 
 -- every transaction left waits, and the one kept is its lowest predecessor
 abbrev pub Blocked : (ℕ → ℕ → Bool) → (ℕ → Bool) → List ℕ → Type 0
-Blocked edge left waits = (t : ℕ) → t < numbers → left t ≡ true → lowest_predecessor numbers edge left t ≡ some (get_or waits t 0)
+Blocked edge left waits = (t : ℕ) → left t ≡ true → lowest_predecessor numbers edge left t ≡ some (get_or waits t 0)

@@ -28,7 +28,7 @@ returns-in-None c =
     let edge = in_row c.args.table.now in
     let set = has c.args.set in
     let all = c.place_all-placed in
-    let none_left = none_found_from _ _ c.in-None.ensures in
+    let none_left = none_found_from _ _ c.in-None.ensures.found in
     let is_line = ends_in_line numbers _ _ _ all.ensures.same_rest (λ t l. none_left t (omega arith) l) in
     let is_long = c.len-count.ensures.value ∙ ap length all.ensures.is_placed in
     record {
@@ -44,7 +44,7 @@ returns-in-None c =
 pub returns-in-Some : goal.returns-in-Some
 returns-in-Some c =
     let all = c.place_all-placed in
-    let first = first_found _ _ c.in-Some.ensures in
+    let first = first_found _ _ c.in-Some.ensures.found in
     let is_cycle =
     ends_in_cycle numbers _ _ _ all.ensures.same_rest (back all.new.waits) all.ensures.blocked c.in-Some.first
     first.below first.passes (λ u m. first.none_before u (omega arith) m)

@@ -3,11 +3,11 @@ use Rattle.std.proofs.Common.{sym, arith}
 use Rattle.sets.proofs.Lowest.{lowest_from, none_from, none_past}
 use Rattle.sets.proofs.Set.next_from.Goals as goal
 
-pub returns-then-from-ge-NUMBERS : goal.returns-then-from-ge-NUMBERS
-returns-then-from-ge-NUMBERS c = sym (none_past c.args.self c.args.from 64 (omega (arith, c.if-from-ge-NUMBERS.true)))
+pub returns-then-from-ge-NUMBERS-clause-found : goal.returns-then-from-ge-NUMBERS-clause-found
+returns-then-from-ge-NUMBERS-clause-found c = sym (none_past c.args.self c.args.from 64 (omega (arith, c.if-from-ge-NUMBERS.true)))
 
-pub returns-then-above-eq0 : goal.returns-then-above-eq0
-returns-then-above-eq0 c = rw (← c.self.view_is) (sym (none_from c.self.inside.bits c.args.from 64 c.if-above-eq0.true))
+pub returns-then-above-eq0-clause-found : goal.returns-then-above-eq0-clause-found
+returns-then-above-eq0-clause-found c = rw (← c.self.view_is) (sym (none_from c.self.inside.bits c.args.from 64 c.if-above-eq0.true))
 
-pub returns : goal.returns
-returns c = rw (← c.self.view_is) (sym (lowest_from c.self.inside.bits c.args.from 64 c.self.invariant c.if-above-eq0.false))
+pub returns-clause-found : goal.returns-clause-found
+returns-clause-found c = rw (← c.self.view_is) (sym (lowest_from c.self.inside.bits c.args.from 64 c.self.invariant c.if-above-eq0.false))

@@ -23,26 +23,26 @@ edge_read : (table : List ℕ) (s t d : ℕ) {b : Bool} → has (get_or table s 
 edge_read table s t d e l = ap (λ (x : ℕ). has x t) (get_or_default table s 0 d l) ∙ e
 
 pub loop-s-init : goal.loop-s-init
-loop-s-init c = look_start _ _ c.search.invariant (first_found _ _ c.in-Some.ensures)
+loop-s-init c = look_start _ _ c.search.invariant (first_found _ _ c.in-Some.ensures.found)
 
 pub search-preserved : goal.search-preserved
 search-preserved c =
-    let other = other_found _ _ _ c.without-others.ensures _ c.in-Some-next_from.ensures in
-    tried_one _ _ c.loop-s.invariant other (first_found _ _ c.in-Some.ensures).below
+    let other = other_found _ _ _ c.without-others.ensures _ c.in-Some-next_from.ensures.found in
+    tried_one _ _ c.loop-s.invariant other (first_found _ _ c.in-Some.ensures.found).below
     (edge_read c.args.table.now _ _ _ (sym c.has.ensures ∙ c.if-has.true) (omega (arith, other.below)))
 
 pub loop-s-preserved : goal.loop-s-preserved
 loop-s-preserved c =
-    let other = other_found _ _ _ c.without-others.ensures _ c.in-Some-next_from.ensures in
+    let other = other_found _ _ _ c.without-others.ensures _ c.in-Some-next_from.ensures.found in
     look_on _ _ c.loop-s.invariant other (edge_read c.args.table.now _ _ _ (sym c.has.ensures ∙ c.if-has.false) (omega (arith, other.below)))
 
 -- none is left that was not tried
 pub returns-in_default : goal.returns-in_default
-returns-in_default c = finds_none _ _ c.search.invariant (none_found_from _ _ c.in_default.ensures)
+returns-in_default c = finds_none _ _ c.search.invariant c.in_default.ensures.low (none_found_from _ _ c.in_default.ensures.found)
 
 -- t has no predecessor left
 pub returns-in_default-next_from : goal.returns-in_default-next_from
 returns-in_default-next_from c =
-    let first = first_found _ _ c.in-Some.ensures in
+    let first = first_found _ _ c.in-Some.ensures.found in
     finds_one _ _ c.loop-s.invariant first.below first.passes
-    (no_other _ _ _ c.without-others.ensures _ c.in_default-next_from.ensures)
+    (no_other _ _ _ c.without-others.ensures _ c.in_default-next_from.ensures.found)
