@@ -3,17 +3,17 @@ ghost use Rattle.std.specs.Prelude.{◌≡◌, ◌<◌, ◌≤◌, length};
 ghost use Rattle.std.proofs.lemmas.List.Edits.{sets};
 ghost use Rattle.sets.specs.Bits.{numbers};
 ghost use Rattle.lines.specs.Rule.{to_lowest};
-ghost use Rattle.cycles.specs.WaitsFor.{Kept, walked};
+ghost use Rattle.cycles.specs.WaitsFor.{walked};
 
 use crate::part::{place_of, place_of_lowest};
+use crate::waits::Waits;
 use sets::{NUMBERS, Set};
 
 // Walks back from a transaction, each time to the one that is waited for, until one comes again. The path is put in the buffer from its
 // end on, each transaction before the one that it was reached from, since the edges lead that way. The cycle is what stands from the start
 // of the path to the one that came again.
-fn walk_back<'p>(waits: &[u8; NUMBERS], first: usize, path: &'p mut [u8; NUMBERS]) -> &'p [u8]
-    requires kept { Kept waits.now }
-    requires first_low { first < numbers }
+fn walk_back<'p>(waits: &Waits, first: usize, path: &'p mut [u8; NUMBERS]) -> &'p [u8]
+    requires { first < numbers }
     ensures walked { result.now ≡ walked waits.now first }
     ensures fits { length result.now ≤ numbers }
 {
@@ -24,7 +24,7 @@ fn walk_back<'p>(waits: &[u8; NUMBERS], first: usize, path: &'p mut [u8; NUMBERS
         at -= 1;
         path[at] = again as u8;
         seen = seen.with(again);
-        again = waits[again] as usize;
+        again = waits.whom(again);
     }
     let path = &path[at..];
     &path[..=place_of(path, again as u8)]
@@ -32,9 +32,8 @@ fn walk_back<'p>(waits: &[u8; NUMBERS], first: usize, path: &'p mut [u8; NUMBERS
 
 // Writes the cycle that the walk back from a transaction leads to, from its lowest number on. The result is how many members it has.
 #[tactic(auto, using(crate::proofs::Parts::place_le))]
-pub fn write_cycle(waits: &[u8; NUMBERS], first: usize, members: &mut [u8; NUMBERS]) -> usize
-    requires kept { Kept waits.now }
-    requires first_low { first < numbers }
+pub fn write_cycle(waits: &Waits, first: usize, members: &mut [u8; NUMBERS]) -> usize
+    requires { first < numbers }
     ensures counted { result ≡ length (to_lowest (walked waits.now first)) }
     ensures written { members.new ≡ sets members.old 0 (to_lowest (walked waits.now first)) }
 {

@@ -4,3 +4,4 @@
 
 pub mod cycle;
 mod part;
+pub mod waits;

@@ -14,7 +14,6 @@ use Rattle.sets.proofs.Counts.{count_low, count_some, count_without, passed_befo
 use Rattle.lines.specs.Rule.{next, placed, rest}
 use Rattle.lines.proofs.Chosen.{next_is}
 use Rattle.lines.proofs.Clauses.{placed_none, placed_some, rest_none, rest_some}
-use Rattle.cycles.specs.WaitsFor.{Kept}
 use Rattle.sort.specs.Searched.{Searched}
 use Rattle.sort.specs.Promises.{FindsReady, PlacesAll}
 use Rattle.sort.proofs.Waits.{searched_fewer}
@@ -85,7 +84,6 @@ module _ (n : ℕ) (edge : ℕ → ℕ → Bool) (all : ℕ → Bool) where
 module _ (edge : ℕ → ℕ → Bool) (all : ℕ → Bool) where
   pub record Placing (waits line : List ℕ) (left : ℕ → Bool) : Type 0 where
     pub to_place : ToPlace numbers edge all line left
-    pub kept : Kept waits
     pub searched : Searched edge left waits
 
   module _ {waits line : List ℕ} {left : ℕ → Bool} (w : Placing waits line left) where
@@ -96,7 +94,6 @@ module _ (edge : ℕ → ℕ → Bool) (all : ℕ → Bool) where
         subst (λ (f : ℕ → Bool). Placing still (line ++ t ∷ []) f) (sym q)
         record {
           to_place = place_one numbers edge all w.to_place (sym found.says);
-          kept = found.kept;
           searched = searched_fewer edge left (without left t) still (passed_before left t) found.searched;
         }
 
@@ -106,10 +103,9 @@ module _ (edge : ℕ → ℕ → Bool) (all : ℕ → Bool) where
         record {
           is_placed = done_line numbers edge all w.to_place e;
           same_rest = λ t. ap (λ (f : ℕ → Bool). f t) (done_rest numbers edge all w.to_place e);
-          kept = found.kept;
           blocked = found.blocked e;
         }
 
 -- the one found is one of the numbers
-pub ready_low : (edge : ℕ → ℕ → Bool) (left : ℕ → Bool) (t : ℕ) (waits : List ℕ) → FindsReady edge left (Some t) waits → t < numbers
-ready_low edge left t waits found = (next_is edge numbers left t (sym found.says)).below
+pub ready_low : (edge : ℕ → ℕ → Bool) (left : ℕ → Bool) (t : ℕ) → some t ≡ next numbers edge left → t < numbers
+ready_low edge left t e = (next_is edge numbers left t (sym e)).below

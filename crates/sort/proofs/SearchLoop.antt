@@ -4,35 +4,35 @@
 use Prim.Native.Nat.{ℕ, ◌+◌, ◌<◌, ◌≤◌}
 use native.Mathlib.Omega.{arith}
 use mathlib.Core.Path.{◌≡◌, sym, ◌∙◌}
-use mathlib.Core.Bool.{Bool, true, false}
+use mathlib.Core.Bool.{Bool, true, false, cond}
 use mathlib.Core.List.{List}
 use mathlib.Core.Option.{some, some-ne-none}
-use lib.ListN.{get_or, set}
+use lib.Dec.{eqb}
+use lib.ListN.{get_or}
 use Rattle.std.specs.Prelude.{Some, None}
 use Rattle.sets.specs.Bits.{numbers}
 use Rattle.sets.specs.Search.{without}
 use Rattle.lines.specs.Rule.{next, lowest_predecessor}
 use Rattle.lines.specs.Lines.{Below}
 use Rattle.lines.proofs.Waiting.{Free, Tried, free_on, free_past, first_is_lowest, tried_on, ready_found, none_found}
-use Rattle.cycles.specs.WaitsFor.{Kept}
+use Rattle.cycles.specs.WaitsFor.{whom}
 use Rattle.sort.specs.Searched.{Searched}
 use Rattle.sort.specs.Promises.{FindsReady}
-use Rattle.sort.proofs.Waits.{FirstFrom, kept_in, kept_store, searched_store, tried_store}
+use Rattle.sort.proofs.Waits.{FirstFrom, searched_store, tried_store}
 
 module _ (edge : ℕ → ℕ → Bool) (left : ℕ → Bool) where
   -- each one left below k has been tried in vain
   pub record Trying (waits : List ℕ) (k : ℕ) : Type 0 where
-    pub kept : Kept waits
     pub searched : Searched edge left waits
-    pub in_vain : Tried numbers edge left (kept_in waits) k
+    pub in_vain : Tried numbers edge left (whom waits) k
 
   -- t is being tried: no predecessor of it below `from` is left
   pub record Looking (waits : List ℕ) (t from : ℕ) : Type 0 where
     pub free : Free numbers edge left t from
     pub trying : Trying waits t
 
-  pub search_start : (waits : List ℕ) → Kept waits → Searched edge left waits → Trying waits 0
-  search_start waits kept searched = record { kept = kept; searched = searched; in_vain = λ t l h. absurd (omega (arith, l)) }
+  pub search_start : (waits : List ℕ) → Searched edge left waits → Trying waits 0
+  search_start waits searched = record { searched = searched; in_vain = λ t l h. absurd (omega (arith, l)) }
 
   module _ {waits : List ℕ} {k : ℕ} (trying : Trying waits k) where
     -- t is the next one left: none between k and t needs to be tried, and below the one kept for t none is to be looked for
@@ -42,9 +42,8 @@ module _ (edge : ℕ → ℕ → Bool) (left : ℕ → Bool) where
           free = trying.searched t;
           trying =
               record {
-                kept = trying.kept;
                 searched = trying.searched;
-                in_vain = tried_on numbers edge left (kept_in waits) k t trying.in_vain next_left.none_before;
+                in_vain = tried_on numbers edge left (whom waits) k t trying.in_vain next_left.none_before;
               };
         }
 
@@ -52,14 +51,13 @@ module _ (edge : ℕ → ℕ → Bool) (left : ℕ → Bool) where
     pub finds_none : Below numbers left → ((u : ℕ) → k ≤ u → u < numbers → left u ≡ false) → FindsReady edge left None waits
     finds_none low none_left =
         record {
-          says = sym (none_found numbers edge left (kept_in waits) all);
-          kept = trying.kept;
+          says = sym (none_found numbers edge left (whom waits) all);
           searched = trying.searched;
           blocked = λ e t h. all t (low t h) h;
         }
       where
-        all : Tried numbers edge left (kept_in waits) numbers
-        all = tried_on numbers edge left (kept_in waits) k numbers trying.in_vain none_left
+        all : Tried numbers edge left (whom waits) numbers
+        all = tried_on numbers edge left (whom waits) k numbers trying.in_vain none_left
 
   module _ {waits : List ℕ} {t from : ℕ} (looking : Looking waits t from) where
     -- s is the next other one that is left
@@ -72,13 +70,11 @@ module _ (edge : ℕ → ℕ → Bool) (left : ℕ → Bool) where
       look_on no_edge = record { free = free_past numbers edge left t s free_before no_edge; trying = looking.trying }
 
       -- it has one: t waits for s, and was tried in vain
-      pub tried_one : t < numbers → edge s t ≡ true → Trying (set waits t s) (t + 1)
-      tried_one t_low is_edge =
-          let old = looking.trying in
+      pub tried_one : {new : List ℕ} → ((u : ℕ) → whom new u ≡ cond (eqb t u) s (whom waits u)) → edge s t ≡ true → Trying new (t + 1)
+      tried_one {new} now is_edge =
           record {
-            kept = kept_store edge left waits t s old.kept t_low next_other.below;
-            searched = searched_store edge left waits t s old.kept t_low next_other.below old.searched free_before;
-            in_vain = tried_store edge left waits t s old.kept t_low next_other.below old.in_vain is_lowest;
+            searched = searched_store waits new t s now edge left looking.trying.searched free_before;
+            in_vain = tried_store waits new t s now edge left looking.trying.in_vain is_lowest;
           }
         where
           is_lowest : lowest_predecessor numbers edge left t ≡ some s
@@ -90,7 +86,6 @@ module _ (edge : ℕ → ℕ → Bool) (left : ℕ → Bool) where
     finds_one t_low is_left no_other =
         record {
           says = sym is_next;
-          kept = looking.trying.kept;
           searched = looking.trying.searched;
           blocked = λ e. absurd (some-ne-none t (sym is_next ∙ e));
         }
@@ -99,4 +94,4 @@ module _ (edge : ℕ → ℕ → Bool) (left : ℕ → Bool) where
         free = free_on numbers edge left t from numbers looking.free no_other
 
         is_next : next numbers edge left ≡ some t
-        is_next = ready_found numbers edge left (kept_in waits) t looking.trying.in_vain t_low is_left free
+        is_next = ready_found numbers edge left (whom waits) t looking.trying.in_vain t_low is_left free

@@ -1,22 +1,21 @@
--- Laws of the predecessors that are kept, in their buffer: at first none is known, one that is found is stored, and those left become
+-- Laws of the predecessors that are kept: at first none is known, one that is found is stored, and those left become
 -- fewer. And what the sets' own methods find and take out, as the rule has it.
 use Prim.Native.Nat.{ℕ, ◌+◌, ◌<◌, ◌≤◌}
 use native.Mathlib.Omega.{arith}
 use native.Mathlib.Decide.{ℕ_discrete}
-use mathlib.Core.Path.{◌≡◌, sym, ◌∙◌, ap, subst, fun_ext}
-use mathlib.Core.Bool.{Bool, true, false, ◌&&◌, not}
+use mathlib.Core.Path.{◌≡◌, refl, sym, ◌∙◌, subst, fun_ext}
+use mathlib.Core.Bool.{Bool, true, false, ◌&&◌, not, cond}
 use mathlib.Core.List.{List}
 use mathlib.Core.Option.{Option, none, some, some-ne-none, some-injective}
 use lib.Dec.{eqb}
-use lib.ListN.{length, get_or, set, length-set}
-use lib.Seq.{get_or-set_same, get_or-set_other}
+use borrow.Author.Tests.{eq-eqb, ne_eqb}
 use Rattle.sets.specs.Bits.{numbers, has}
 use Rattle.sets.specs.Search.{next_from, without}
 use Rattle.sets.proofs.Truth.{clash, refuted}
 use Rattle.sets.proofs.From.{NextFrom, next_miss, next_hit, next_view}
 use Rattle.sets.proofs.Counts.{without_said}
 use Rattle.lines.specs.Rule.{predecessor, lowest_predecessor}
-use Rattle.cycles.specs.WaitsFor.{Kept}
+use Rattle.cycles.specs.WaitsFor.{whom}
 use Rattle.sort.specs.Searched.{Searched}
 use Rattle.lines.proofs.Chosen.{predecessor_more}
 use Rattle.lines.proofs.Waiting.{Free, Tried}
@@ -24,10 +23,6 @@ use Rattle.lines.proofs.Waiting.{Free, Tried}
 -- a set with one taken out, as the rule has it
 pub taken : (left fewer t : ℕ) → ((s : ℕ) → has fewer s ≡ (has left s && not (eqb t s))) → has fewer ≡ without (has left) t
 taken left fewer t h = fun_ext (λ s. h s ∙ without_said (has left) t s)
-
--- the one kept for each
-abbrev pub kept_in : List ℕ → ℕ → ℕ
-kept_in waits t = get_or waits t 0
 
 -- what a search from k on found: the first there that passes
 pub record FirstFrom (p : ℕ → Bool) (k r : ℕ) : Type 0 where
@@ -58,43 +53,29 @@ none_found_from p k e = go (next_from k numbers p) (next_view p k numbers) (sym 
     go none (next_miss f) q = f
     go (some r) (next_hit m l h f) q = absurd (some-ne-none r q)
 
-module _ (edge : ℕ → ℕ → Bool) (left : ℕ → Bool) where
-  -- the one found is kept
-  module _ (waits : List ℕ) (t s : ℕ) (k : Kept waits) (tl : t < numbers) (sl : s < numbers) where
-    stored : get_or (set waits t s) t 0 ≡ s
-    stored = get_or-set_same waits t s 0 (rw k.whole tl)
+-- t now waits for s, and every other for whom it did
+module _ (old new : List ℕ) (t s : ℕ) (now : (u : ℕ) → whom new u ≡ cond (eqb t u) s (whom old u)) where
+  now_waits : (P : ℕ → ℕ → Type 0) → P t s → ((u : ℕ) → (u ≡ t → ⊥) → P u (whom old u)) → (u : ℕ) → P u (whom new u)
+  now_waits P own others u = subst (P u) (sym (now u)) (go (ℕ_discrete u t))
+    where
+      go : Dec (u ≡ t) → P u (cond (eqb t u) s (whom old u))
+      go (yes q) = rw (q, eq-eqb t t refl) own
+      go (no q) = rw (ne_eqb t u (λ (e : t ≡ u). q (sym e))) (others u q)
 
-    pub kept_store : Kept (set waits t s)
-    kept_store = record { whole = simp length-set k.whole; low = λ u. go u (ℕ_discrete u t) }
-      where
-        go : (u : ℕ) → Dec (u ≡ t) → get_or (set waits t s) u 0 < numbers
-        go u (yes q) = rw (q, stored) sl
-        go u (no q) = rw (get_or-set_other waits t u s 0 q) (k.low u)
+  module _ (edge : ℕ → ℕ → Bool) (left : ℕ → Bool) where
+    pub searched_store : Searched edge left old → Free numbers edge left t s → Searched edge left new
+    searched_store searched free =
+        now_waits (λ u w. (e : ℕ) → e < w → predecessor edge left u e ≡ false) free (λ u q. searched u)
 
-    pub searched_store : Searched edge left waits → Free numbers edge left t s → Searched edge left (set waits t s)
-    searched_store p f u e l = go (ℕ_discrete u t)
-      where
-        go : Dec (u ≡ t) → predecessor edge left u e ≡ false
-        go (yes q) =
-            let is_stored : get_or (set waits t s) u 0 ≡ s = ap (λ (x : ℕ). get_or (set waits t s) x 0) q ∙ stored in
-            ap (λ (x : ℕ). predecessor edge left x e) q ∙ f e (subst (λ (x : ℕ). e < x) is_stored l)
-        go (no q) = p u e (subst (λ (x : ℕ). e < x) (get_or-set_other waits t u s 0 q) l)
-
-    pub tried_store : Tried numbers edge left (kept_in waits) t → lowest_predecessor numbers edge left t ≡ some s
-        → Tried numbers edge left (kept_in (set waits t s)) (t + 1)
-    tried_store w e u l h = go (ℕ_discrete u t)
-      where
-        go : Dec (u ≡ t) → lowest_predecessor numbers edge left u ≡ some (get_or (set waits t s) u 0)
-        go (yes q) = rw (q, stored) e
-        go (no q) = w u (omega (arith, l, q)) h ∙ ap some (sym (get_or-set_other waits t u s 0 q))
+    pub tried_store : Tried numbers edge left (whom old) t → lowest_predecessor numbers edge left t ≡ some s
+        → Tried numbers edge left (whom new) (t + 1)
+    tried_store tried e =
+        now_waits (λ u w. u < t + 1 → left u ≡ true → lowest_predecessor numbers edge left u ≡ some w) (λ l h. e)
+        (λ u q l h. tried u (omega (arith, l, q)) h)
 
 -- at first none is known to wait
-module _ (waits : List ℕ) (blank : (t : ℕ) → ◌≡◌ {A = ℕ} (get_or waits t 0) 0) where
-  pub kept_start : length waits ≡ numbers → Kept waits
-  kept_start w = record { whole = w; low = λ t. rw (blank t) (omega arith) }
-
-  pub searched_start : (edge : ℕ → ℕ → Bool) (left : ℕ → Bool) → Searched edge left waits
-  searched_start edge left t s l = absurd (omega (arith, l, blank t))
+pub searched_start : (waits : List ℕ) → ((t : ℕ) → whom waits t ≡ 0) → (edge : ℕ → ℕ → Bool) (left : ℕ → Bool) → Searched edge left waits
+searched_start waits blank edge left t s l = absurd (omega (arith, l, blank t))
 
 -- those left become fewer
 pub searched_fewer : (edge : ℕ → ℕ → Bool) (left fewer : ℕ → Bool) (waits : List ℕ) → ((s : ℕ) → fewer s ≡ true → left s ≡ true)

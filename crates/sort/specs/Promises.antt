@@ -7,7 +7,6 @@ use Rattle.std.proofs.lemmas.List.Edits.{sets}
 use Rattle.sets.specs.Bits.{numbers, has, in_row}
 use Rattle.sets.specs.Search.{found_says}
 use Rattle.lines.specs.Rule.{LineOrCycle, next, placed, rest, sorted, members_of, length_of}
-use Rattle.cycles.specs.WaitsFor.{Kept}
 use Rattle.sort.specs.Numbers.{sorted_says}
 use Rattle.sort.specs.Searched.{Searched, Blocked}
 use Rattle.sort.specs.declared.Sorted.{Sorted}
@@ -24,7 +23,6 @@ pub record SortsTable (table : List ℕ) (set : ℕ) (old : List ℕ) (answer : 
 -- a search for the ready one: of those left, the answer and the predecessors kept
 pub record FindsReady (edge : ℕ → ℕ → Bool) (left : ℕ → Bool) (answer : Found ℕ) (waits : List ℕ) : Type 0 where
   pub says : found_says answer ≡ next numbers edge left
-  pub kept : Kept waits
   pub searched : Searched edge left waits
   pub blocked : next numbers edge left ≡ none → Blocked edge left waits
 
@@ -32,5 +30,4 @@ pub record FindsReady (edge : ℕ → ℕ → Bool) (left : ℕ → Bool) (answe
 pub record PlacesAll (edge : ℕ → ℕ → Bool) (set : ℕ → Bool) (line : List ℕ) (left : ℕ → Bool) (waits : List ℕ) : Type 0 where
   pub is_placed : line ≡ placed numbers edge numbers set
   pub same_rest : (t : ℕ) → left t ≡ rest numbers edge numbers set t
-  pub kept : Kept waits
   pub blocked : Blocked edge left waits

@@ -9,6 +9,7 @@ mod search;
 
 use crate::line::place_all;
 use cycles::cycle::write_cycle;
+use cycles::waits::Waits;
 use sets::{NUMBERS, Set};
 
 // A line or a cycle, and how many members it has. They are in the buffer that was lent.
@@ -26,7 +27,7 @@ pub enum Sorted {
 pub fn sort(table: &[Set; NUMBERS], set: Set, members: &mut [u8; NUMBERS]) -> Sorted
     ensures { SortsTable table.now set members.old result members.new }
 {
-    let mut waits = [0u8; NUMBERS];
+    let mut waits = Waits::new();
     let placed = place_all(table, set, &mut waits);
     match placed.left.next_from(0) {
         None => {

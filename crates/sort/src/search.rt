@@ -1,9 +1,9 @@
 // The search for the transaction that is ready for the next place of the line.
 ghost use Rattle.sets.specs.Bits.{has, in_row};
-ghost use Rattle.cycles.specs.WaitsFor.{Kept};
 ghost use Rattle.sort.specs.Searched.{Searched};
 ghost use Rattle.sort.specs.Promises.{FindsReady};
 
+use cycles::waits::Waits;
 use sets::{NUMBERS, Set};
 
 // The lowest-numbered transaction of those left whose predecessors all stand already, that is, are not left. The search for a predecessor
@@ -11,13 +11,8 @@ use sets::{NUMBERS, Set};
 // 64 × 64 times in vain for an edge, and each of them at most once more for each transaction. Where none is ready, the predecessors found
 // are the lowest.
 #[tactic(auto, using(crate::proofs::Waits::found_after, crate::proofs::Waits::found_low))]
-pub(crate) fn lowest_ready(
-    table: &[Set; NUMBERS],
-    left: Set,
-    waits: &mut [u8; NUMBERS],
-) -> Option<usize>
-    requires kept { Kept waits.old }
-    requires searched { Searched (in_row table.now) (has left) waits.old }
+pub(crate) fn lowest_ready(table: &[Set; NUMBERS], left: Set, waits: &mut Waits) -> Option<usize>
+    requires { Searched (in_row table.now) (has left) waits.old }
     ensures { FindsReady (in_row table.now) (has left) result waits.new }
 {
     let mut tried = 0;
@@ -27,10 +22,10 @@ pub(crate) fn lowest_ready(
         };
         tried = t + 1;
         let others = left.without(t);
-        let mut from = waits[t] as usize;
+        let mut from = waits.whom(t);
         while let Some(s) = others.next_from(from) {
             if table[s].has(t) {
-                waits[t] = s as u8;
+                waits.wait_for(t, s);
                 continue 'search;
             }
             from = s + 1;

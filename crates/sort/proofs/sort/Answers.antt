@@ -1,26 +1,18 @@
 -- `sort::sort` meets its contract: the laws in Endings say what the rule gives where none is left, and where one is.
-use Rattle.std.proofs.Common.{ℕ, List, length, replicate, refl, sym, ◌∙◌, ap, arith}
+use Rattle.std.proofs.Common.{ℕ, List, length, sym, ◌∙◌, ap, arith}
 use Rattle.std.proofs.lemmas.List.Edits.{sets}
 use borrow.Rule.Slice.PartMut.{put_mid}
 use Rattle.sets.specs.Bits.{numbers, has, in_row}
-use Rattle.sets.proofs.Tables.{empty_entry}
 use Rattle.lines.specs.Rule.{LineOrCycle, line, cycle, length_of, members_of, placed}
 use Rattle.cycles.specs.WaitsFor.{back}
 use Rattle.lines.proofs.Endings.{ends_in_line, ends_in_cycle}
 use Rattle.lines.proofs.Placing.{placed_fits}
 use Rattle.cycles.proofs.CycleWritten.{copied}
-use Rattle.sort.proofs.Waits.{first_found, none_found_from, kept_start, searched_start}
+use Rattle.sort.proofs.Waits.{first_found, none_found_from, searched_start}
 use Rattle.sort.proofs.sort.Goals as goal
 
--- at first no predecessor is known
-abbrev blank : List ℕ
-blank = replicate {A = ℕ} 64 0
-
-pub place_all-placed-requires-clause-kept : goal.place_all-placed-requires-clause-kept
-place_all-placed-requires-clause-kept c = kept_start blank (empty_entry 64) refl
-
-pub place_all-placed-requires-clause-searched : goal.place_all-placed-requires-clause-searched
-place_all-placed-requires-clause-searched c = searched_start blank (empty_entry 64) (in_row c.args.table.now) (has c.args.set)
+pub place_all-placed-requires : goal.place_all-placed-requires
+place_all-placed-requires c = searched_start c.new-waits.result c.new-waits.ensures (in_row c.args.table.now) (has c.args.set)
 
 -- none is left: the line is written
 pub returns-in-None : goal.returns-in-None

@@ -6,7 +6,7 @@ use Rattle.cycles.proofs.WalkLoop.{path_start, path_room, path_step, last_inside
 use Rattle.cycles.proofs.cycle.walk_back.Goals as goal
 
 pub loop-seen-init : goal.loop-seen-init
-loop-seen-init c = path_start numbers c.args.waits.now c.args.first c.args.path.now (search rules) c.requires.first_low
+loop-seen-init c = path_start numbers c.args.waits.now c.args.first c.args.path.now (search rules) c.requires
 
 pub overflow_sub-at : goal.overflow_sub-at
 overflow_sub-at c = path_room c.loop-seen.invariant (sym c.has.ensures ∙ c.loop-seen-test.true)
@@ -16,8 +16,8 @@ loop-seen-smaller c = omega (arith, path_room c.loop-seen.invariant (sym c.has.e
 
 pub loop-seen-preserved : goal.loop-seen-preserved
 loop-seen-preserved c =
-    path_step c.loop-seen.invariant (sym c.has.ensures ∙ c.loop-seen-test.true) c.with-seen.result c.with-seen.ensures
-    (c.requires.kept.low c.loop-seen.again)
+    rw c.whom-again.ensures.said
+    (path_step c.loop-seen.invariant (sym c.has.ensures ∙ c.loop-seen-test.true) c.with-seen.result c.with-seen.ensures (omega arith))
 
 pub overflow_add-result : goal.overflow_add-result
 overflow_add-result c =

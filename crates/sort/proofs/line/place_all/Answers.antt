@@ -9,8 +9,7 @@ pub loop-t-init : goal.loop-t-init
 loop-t-init c =
     record {
       to_place = rw c.new-line.ensures (place_start numbers (in_row c.args.table.now) (has c.args.set));
-      kept = c.requires.kept;
-      searched = c.requires.searched;
+      searched = c.requires;
     }
 
 pub push-requires : goal.push-requires

@@ -23,12 +23,12 @@ edge_read : (table : List ℕ) (s t d : ℕ) {b : Bool} → has (get_or table s 
 edge_read table s t d e l = ap (λ (x : ℕ). has x t) (get_or_default table s 0 d l) ∙ e
 
 pub loop-s-init : goal.loop-s-init
-loop-s-init c = look_start _ _ c.search.invariant (first_found _ _ c.in-Some.ensures.found)
+loop-s-init c = rw c.whom-from.ensures.said (look_start _ _ c.search.invariant (first_found _ _ c.in-Some.ensures.found))
 
 pub search-preserved : goal.search-preserved
 search-preserved c =
     let other = other_found _ _ _ c.without-others.ensures _ c.in-Some-next_from.ensures.found in
-    tried_one _ _ c.loop-s.invariant other (first_found _ _ c.in-Some.ensures.found).below
+    tried_one _ _ c.loop-s.invariant other c.wait_for.ensures
     (edge_read c.args.table.now _ _ _ (sym c.has.ensures ∙ c.if-has.true) (omega (arith, other.below)))
 
 pub loop-s-preserved : goal.loop-s-preserved
