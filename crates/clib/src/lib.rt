@@ -64,6 +64,7 @@ pub struct CodedVerdict {
 // The number that stands for "none": one past the highest place of a record, and so above every transaction too.
 pub const NONE: u64 = MOST_RECORDS as u64;
 
+// A caller of `into` knows what `from_gives` says.
 impl From<Refusal> for Coded {
     ghost from_gives = { λ r numbers. numbers ≡ coded_refusal (number_of r) (place_of r) };
 

@@ -72,7 +72,8 @@ impl Kept {
         Ok(())
     }
 
-    // Keeps a record. Its kind comes first, which numbers 7 and 8 have just asked for: a branch is foretold best right behind its like.
+    // Keeps a record. Its kind comes first, since numbers 7 and 8 have just asked for the same: a branch is foretold better right behind one
+    // that asks the same.
     pub fn keep(&mut self, r: &Record<'_>)
         requires { KeptBefore r.now.log r.now.place self.old }
         ensures { KeptBefore r.now.log (r.now.place + 1) self.new }

@@ -53,7 +53,7 @@ module _ (log : List ℕ) where
 
   module _ (sound : Passes log) where
     -- who is in the log commits
-    members_whole : {committed : ℕ} → LaterCommits log 0 committed → (t : ℕ) → has committed t ≡ in_log log t
+    pub members_whole : {committed : ℕ} → LaterCommits log 0 committed → (t : ℕ) → has committed t ≡ in_log log t
     unfolding some_before
     members_whole w t =
         (set_all_from says_commit (records log) w).said t
@@ -77,7 +77,6 @@ module _ (log : List ℕ) where
           item_writers = items_whole w.writers;
           whole = whole.whole;
           in_order = λ x s j. whole.said s j ∙ order_by_commits (history_of log) sound.commits_once x s j;
-          members = members_whole w.commits;
         }
 
   -- the tables of reasons 2 and 3

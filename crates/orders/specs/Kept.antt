@@ -1,11 +1,11 @@
 -- What is kept of the write orders: the writers of each item, and the commits from record k on.
 use Rattle.std.specs.Prelude.{ℕ, ◌≡◌, List, Bool, ◌&&◌, length}
-use Rattle.sets.specs.Bits.{has, in_row, Holds}
+use Rattle.sets.specs.Bits.{in_row, Holds}
 use Rattle.sets.specs.Gathered.{SetFrom}
 use Rattle.histories.specs.History.{is_by, writes_item}
 use Rattle.histories.specs.Earlier.{some_after, writes}
 use Rattle.histories.specs.Order.{comes_before}
-use Rattle.rules.specs.LogHistory.{in_log, history_of}
+use Rattle.rules.specs.LogHistory.{history_of}
 use Rattle.rules.specs.Record.{transactions, items, records, is_commit}
 use Rattle.tables.specs.Kept.{LaterSets, LaterRows}
 use Rattle.orders.specs.declared.order.WriteOrder.{WriteOrder}
@@ -30,9 +30,8 @@ pub record KeptFrom (log : List ℕ) (k : ℕ) (order : WriteOrder) : Type 0 whe
   pub commits : LaterCommits log k order.committed
   pub orders : LaterOrders log k order.after
 
--- once the whole log is read: the writers of each item, who comes after each transaction in a write order, and who is in the log
+-- once the whole log is read: the writers of each item, and who comes after each transaction in a write order
 pub record KeptOrder (log : List ℕ) (order : WriteOrder) : Type 0 where
   pub item_writers : Holds items (λ x t. writes (history_of log) t x) order.writers
   pub whole : length order.after ≡ transactions
   pub in_order : (x s j : ℕ) → in_row order.after s j ≡ comes_before (history_of log) x s j
-  pub members : (t : ℕ) → has order.committed t ≡ in_log log t

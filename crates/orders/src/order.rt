@@ -2,7 +2,7 @@
 ghost use Rattle.std.specs.Prelude.{◌≡◌, ℕ, ◌+◌, ◌<◌, List};
 ghost use Rattle.sets.specs.Bits.{has};
 ghost use Rattle.histories.specs.Order.{writer_after};
-ghost use Rattle.rules.specs.LogHistory.{history_of};
+ghost use Rattle.rules.specs.LogHistory.{in_log, history_of};
 ghost use Rattle.rules.specs.Record.{records, transactions, item};
 ghost use Rattle.orders.specs.Kept.{KeptFrom, KeptOrder};
 
@@ -24,7 +24,8 @@ pub struct WriteOrder {
 impl WriteOrder {
     // The write orders of a log that passes, read from its end.
     pub fn of_log(log: &Passed<'_>) -> WriteOrder
-        ensures { KeptOrder log.now result }
+        ensures kept_order { KeptOrder log.now result }
+        ensures members { (t : ℕ) → has result.committed t ≡ in_log log.now t }
     {
         let log = log.log();
         let mut order = WriteOrder::new();

@@ -10,7 +10,7 @@ use std::marker::Model;
 // How many numbers there are that a set may have: those below 64.
 pub const NUMBERS: usize = 64;
 
-// A set of numbers below 64. A clause sees it as the number of its bits, and asks `has` of that.
+// A set of numbers below 64. A clause sees it as the number of its bits, and asks `has` of that. C hands one over as a uint64_t.
 #[derive(Clone, Copy, PartialEq, Eq)]
 #[repr(C)]
 pub struct Set {
@@ -29,13 +29,6 @@ impl Model for Set {
 
 impl Set {
     pub const EMPTY: Set = Set { bits: 0 };
-
-    // The set of these bits.
-    pub fn of_bits(bits: u64) -> Set
-        ensures { result ≡ bits }
-    {
-        Set { bits }
-    }
 
     // Whether the set has i.
     pub fn has(self, i: usize) -> bool

@@ -25,7 +25,7 @@ impl Reason {
 }
 
 // The edges of each reason.
-#[derive(Clone, Copy)]
+#[derive(Drop)]
 pub struct ReasonTables {
     pub by_conflict: [Set; TRANSACTIONS],
     pub by_order: [Set; TRANSACTIONS],
