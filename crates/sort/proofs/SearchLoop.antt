@@ -8,7 +8,6 @@ use mathlib.Core.Bool.{Bool, true, false, cond}
 use mathlib.Core.List.{List}
 use mathlib.Core.Option.{some, some-ne-none}
 use lib.Dec.{eqb}
-use lib.ListN.{get_or}
 use Rattle.std.specs.Prelude.{Some, None}
 use Rattle.sets.specs.Bits.{numbers}
 use Rattle.sets.specs.Search.{without}
@@ -36,7 +35,7 @@ module _ (edge : ℕ → ℕ → Bool) (left : ℕ → Bool) where
 
   module _ {waits : List ℕ} {k : ℕ} (trying : Trying waits k) where
     -- t is the next one left: none between k and t needs to be tried, and below the one kept for t none is to be looked for
-    pub look_start : {t : ℕ} → FirstFrom left k t → Looking waits t (get_or waits t 0)
+    pub look_start : {t : ℕ} → FirstFrom left k t → Looking waits t (whom waits t)
     look_start {t} next_left =
         record {
           free = trying.searched t;

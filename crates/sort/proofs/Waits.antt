@@ -1,5 +1,5 @@
--- Laws of the predecessors that are kept: at first none is known, one that is found is stored, and those left become
--- fewer. And what the sets' own methods find and take out, as the rule has it.
+-- Laws of the predecessors that are kept: at first none is known, one that is found is stored, and those left become fewer. And what the
+-- sets' own methods find and take out, as the rule has it.
 use Prim.Native.Nat.{ℕ, ◌+◌, ◌<◌, ◌≤◌}
 use native.Mathlib.Omega.{arith}
 use native.Mathlib.Decide.{ℕ_discrete}
