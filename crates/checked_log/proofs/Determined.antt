@@ -6,9 +6,8 @@ use mathlib.Core.List.{List}
 use mathlib.Core.Option.{Option, none, some}
 use Rattle.histories.specs.Source.{Source}
 use Rattle.rules.specs.Answer.{Answer, gives, refused}
-use Rattle.rules.proofs.Answers.{said_number, said_place}
 use Rattle.refusals.specs.declared.refusal.Checked.{Checked}
-use Rattle.refusals.proofs.Determined.{same_refusal, no_zero, same_checked}
+use Rattle.refusals.proofs.Determined.{same_refusal, same_checked}
 use Rattle.checked_log.specs.Numbers.{source_says, found_says}
 use Rattle.checked_log.specs.Promises.{ChecksLength, ChecksContent, ChecksLog, FindsSource, TellsSource}
 use Rattle.checked_log.specs.declared.source.Found.{Found}
@@ -17,38 +16,24 @@ use Rattle.checked_log.specs.declared.source.Source.{Source as Told}
 use Rattle.checked_log.specs.declared.source.SourceAnswer.{SourceAnswer}
 use Rattle.checked_log.specs.declared.source.SourceAnswer.TheVariants.{Of, None, Refused as SourceRefused}
 
--- what a source's answer holds: its transaction and its place, each with one added, or 0 for none
-abbrev said_transaction : Answer (Option Source) → ℕ
-said_transaction (gives (some s)) = suc s.transaction
-said_transaction (gives none) = 0
-said_transaction (refused n p) = 0
-
-abbrev said_record : Answer (Option Source) → ℕ
-said_record (gives (some s)) = suc s.place
-said_record (gives none) = 0
-said_record (refused n p) = 0
-
 abbrev two : (t place : ℕ) → Told
 two t place = record { transaction = t; place = place }
 
 pub same_source : (a b : SourceAnswer) → source_says a ≡ source_says b → a ≡ b
-same_source (Of s) (Of t) e =
-    let q : suc s.transaction ≡ suc t.transaction = ap said_transaction e in
-    let r : suc s.place ≡ suc t.place = ap said_record e in
-    ap Of (ap₂ two (omega arith) (omega arith))
-same_source (Of s) None e = let q : suc s.place ≡ 0 = ap said_record e in absurd (omega arith)
-same_source (Of s) (SourceRefused r) e = absurd (no_zero r (sym (ap said_number e)))
-same_source None (Of t) e = let q : 0 ≡ suc t.place = ap said_record e in absurd (omega arith)
+same_source (Of s) (Of t) e = ap Of (ap₂ two (cc) (cc))
+same_source (Of s) None e = cc
+same_source (Of s) (SourceRefused r) e = cc
+same_source None (Of t) e = cc
 same_source None None e = refl
-same_source None (SourceRefused s) e = absurd (no_zero s (sym (ap said_number e)))
-same_source (SourceRefused r) (Of t) e = absurd (no_zero r (ap said_number e))
-same_source (SourceRefused r) None e = absurd (no_zero r (ap said_number e))
-same_source (SourceRefused r) (SourceRefused s) e = ap SourceRefused (same_refusal r s (ap said_number e) (ap said_place e))
+same_source None (SourceRefused s) e = cc
+same_source (SourceRefused r) (Of t) e = cc
+same_source (SourceRefused r) None e = cc
+same_source (SourceRefused r) (SourceRefused s) e = ap SourceRefused (same_refusal r s (cc) (cc))
 
 pub same_found : (a b : Found) → found_says a ≡ found_says b → a ≡ b
-same_found (At e) (At f) h = let q : e ≡ f = cc in ap At q
-same_found (At e) NoneFound h = let z : ◌≡◌ {A = ℕ} 0 1 = cc in absurd (omega arith)
-same_found NoneFound (At f) h = let z : ◌≡◌ {A = ℕ} 0 1 = cc in absurd (omega arith)
+same_found (At e) (At f) h = cc
+same_found (At e) NoneFound h = cc
+same_found NoneFound (At f) h = cc
 same_found NoneFound NoneFound h = refl
 
 -- THEOREM: any two answers that `check` promises for a log are equal; and so for its halves

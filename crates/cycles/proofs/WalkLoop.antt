@@ -9,9 +9,11 @@ use mathlib.Core.List.{List, [], ◌∷◌}
 use mathlib.Core.Option.{Option}
 use lib.Dec.{eqb}
 use lib.ListN.{length, drop, get_or, set, length-set, length-drop, drop_of_length-le}
-use lib.Seq.{drop-cons, drop-set-lt, get_or-set_same}
+use Rattle.std.proofs.lemmas.List.{drop-set}
+use native.Mathlib.Numerals.{add-one}
 use Rattle.sets.specs.Bits.{has}
-use Rattle.sets.proofs.Truth.{clash, or_swap}
+use Rattle.std.proofs.Math.Bool.{or_comm}
+use borrow.Author.Clash.{clash}
 use Rattle.sets.proofs.Members.{has_zero}
 use Rattle.sets.proofs.Counts.{count_low}
 use Rattle.lines.specs.Rule.{among, walk, up_to}
@@ -19,13 +21,6 @@ use Rattle.lines.specs.Lines.{NoneTwice}
 use Rattle.cycles.specs.WaitsFor.{back}
 use Rattle.lines.proofs.Lists.{among_nil, among_cons, among_cases, pigeonhole}
 use Rattle.lines.proofs.Clauses.{walk_steps}
-
--- a buffer with one put before the path
-front : (path : List ℕ) (at t : ℕ) → at < length path → drop at (set path at t) ≡ t ∷ drop (suc at) path
-front path at t l =
-    drop-cons (set path at t) at 0 (rw (length-set path at t) l)
-    ∙ ap (λ (x : ℕ). x ∷ drop (suc at) (set path at t)) (get_or-set_same path at t 0 l)
-    ∙ ap (λ (xs : List ℕ). t ∷ xs) (drop-set-lt (suc at) path at t (omega arith))
 
 -- what the walk yields that has come to s, with m steps to go: the cycle where s is on the path, else what follows from s
 abbrev coming : (ℕ → Option ℕ) → ℕ → ℕ → List ℕ → List ℕ
@@ -91,7 +86,7 @@ module _ (n : ℕ) (waits : List ℕ) (first : ℕ) where
             seen_are = λ t.
                 h t
                 ∙ ap (λ (b : Bool). b || eqb again t) (w.seen_are t)
-                ∙ or_swap (among (drop at path) t) (eqb again t)
+                ∙ or_comm (among (drop at path) t) (eqb again t)
                 ∙ sym (ap (λ (xs : List ℕ). among xs t) longer ∙ among_cons again (drop at path) t);
             again_low = l;
             same_walk =
@@ -106,7 +101,7 @@ module _ (n : ℕ) (waits : List ℕ) (first : ℕ) where
           down = omega (arith, path_room)
 
           longer : drop (at - 1) (set path (at - 1) again) ≡ again ∷ drop at path
-          longer = front path (at - 1) again (omega (arith, w.whole, w.inside, path_room)) ∙ ap (λ (k : ℕ). again ∷ drop k path) down
+          longer = drop-set path (at - 1) again (omega (arith, w.whole, w.inside, path_room)) ∙ ap (λ (k : ℕ). again ∷ drop k path) (add-one (at - 1) ∙ down)
 
     -- one comes again
     module _ (old : has seen again ≡ true) where

@@ -8,7 +8,8 @@ use mathlib.Core.Bool.{true}
 use mathlib.Core.Option.{some}
 use mathlib.Core.Logic.{inl, inr, ⊎_elim}
 use Rattle.sets.specs.Paths.{by_edge, edge_then, Acyclic}
-use Rattle.sets.proofs.Truth.{clash, and_left, and_right}
+use Rattle.std.proofs.lemmas.Bool.{and_parts}
+use borrow.Author.Clash.{clash}
 use Rattle.histories.specs.History.{History, Counts, conflicting}
 use Rattle.histories.specs.Earlier.{wrote_item, Writer}
 use Rattle.histories.specs.Source.{shows, source_record, writer_behind}
@@ -59,11 +60,11 @@ module _ (h : History) where
   -- an edge of SG joins two that take part, by a conflict; and the graph has every one
   pub SG_two : (i j : ℕ) → serialization_edge h i j ≡ true → Two h i j
   unfolding serialization_edge
-  SG_two i j b = two_found h i j (and_left (two_of_them h i j) (conflict h i j) b)
+  SG_two i j b = two_found h i j (and_parts (two_of_them h i j) (conflict h i j) b).0
 
   pub SG_conflict : (i j : ℕ) → serialization_edge h i j ≡ true → conflict h i j ≡ true
   unfolding serialization_edge
-  SG_conflict i j b = and_right (two_of_them h i j) (conflict h i j) b
+  SG_conflict i j b = (and_parts (two_of_them h i j) (conflict h i j) b).1
 
   pub conflict_in_SG : (e f : ℕ) → e < f → Counts h e → Counts h f → (h.transaction e ≡ h.transaction f → ⊥) → conflicting h e f ≡ true
       → serialization_edge h (h.transaction e) (h.transaction f) ≡ true

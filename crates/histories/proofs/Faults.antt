@@ -3,7 +3,7 @@ use Prim.Native.Nat.{ℕ, ◌<◌}
 use mathlib.Core.Path.{◌≡◌, refl, sym}
 use mathlib.Core.Bool.{true, false}
 use borrow.Author.Tests.{not-false}
-use Rattle.sets.proofs.Truth.{clash}
+use borrow.Author.Clash.{clash}
 use Rattle.sets.proofs.Searches.{only_between}
 use Rattle.histories.specs.History.{History, Counts}
 use Rattle.histories.specs.Earlier.{committed, wrote_copy, wrote_item}

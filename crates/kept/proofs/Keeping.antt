@@ -13,7 +13,8 @@ use native.Mathlib.Decide.{ℕ_discrete}
 use borrow.Author.Tests.{eq-eqb, ne_eqb}
 use Rattle.sets.specs.Search.{some_below, first_below}
 use Rattle.sets.specs.Bits.{has}
-use Rattle.sets.proofs.Truth.{clash, and_swap, or_nothing}
+use Rattle.std.proofs.Math.Bool.{and_comm, or-false}
+use borrow.Author.Clash.{clash}
 use Rattle.sets.proofs.Searches.{some_more, some_zero, none_some, first_hit, first_stays}
 use Rattle.sets.proofs.Members.{has_zero}
 use Rattle.sets.proofs.Tables.{holds_none}
@@ -39,7 +40,7 @@ module _ (log : List ℕ) (writes : ℕ → ℕ → Bool) (wide : ℕ) where
     writers_add d t v l e q h =
         below_more wide says_writer k w
         (added_store (says_writer k) table d v (eqb t) (rw w.whole l) h
-        (λ c i. ap₂ ◌&&◌ (by_is (history_of log) k i ∙ ap (λ (x : ℕ). eqb x i) (sym q)) (e c) ∙ and_swap (eqb t i) (eqb d c)))
+        (λ c i. ap₂ ◌&&◌ (by_is (history_of log) k i ∙ ap (λ (x : ℕ). eqb x i) (sym q)) (e c) ∙ and_comm (eqb t i) (eqb d c)))
 
     -- a record that writes nothing adds nothing
     pub writers_stay : ((c : ℕ) → writes k c ≡ false) → KeptWriters log writes wide (k + 1) table
@@ -88,7 +89,7 @@ module _ (log : List ℕ) (k names : ℕ) (firsts : List ℕ) (w : KeptNames log
         where
           go : Dec (own ≡ t) → (named log t k || eqb own t) ≡ named log t k
           go (yes q) = rw (← q, sym (w.said own) ∙ h) refl
-          go (no q) = rw (ne_eqb own t q, or_nothing (named log t k)) refl
+          go (no q) = rw (ne_eqb own t q, or-false (named log t k)) refl
 
   -- a transaction that is named for the first time
   pub names_add : (own v : ℕ) → own ≡ transaction log k → own < transactions → has names own ≡ false
@@ -115,4 +116,4 @@ module _ (log : List ℕ) (k names : ℕ) (firsts : List ℕ) (w : KeptNames log
       go t (no e) q = rw (get_or-set_other firsts own t k 0 e) (stays t older)
         where
           older : named log t k ≡ true
-          older = sym (more t ∙ ap (λ (b : Bool). named log t k || b) (ne_eqb own t (λ r. e (sym r))) ∙ or_nothing (named log t k)) ∙ q
+          older = sym (more t ∙ ap (λ (b : Bool). named log t k || b) (ne_eqb own t (λ r. e (sym r))) ∙ or-false (named log t k)) ∙ q

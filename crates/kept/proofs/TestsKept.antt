@@ -7,7 +7,8 @@ use mathlib.Core.Logic.{⊎_elim}
 use lib.ListN.{get_or}
 use Rattle.sets.specs.Search.{some_below}
 use Rattle.sets.specs.Bits.{has}
-use Rattle.sets.proofs.Truth.{either, and_nothing}
+use Rattle.std.proofs.Math.Bool.{and-false}
+use Rattle.std.proofs.lemmas.Bool.{cases_Bool}
 use Rattle.sets.proofs.Searches.{some_none, none_some}
 use Rattle.sets.proofs.Members.{has_zero, no_member}
 use Rattle.histories.specs.Faults.{after_commit, reads_unwritten, reads_past_own}
@@ -48,7 +49,7 @@ module _ (log : List ℕ) (k : ℕ) where
     written_kept f =
         ⊎_elim (λ (t : some_below k (shows (history_of log) k) ≡ true). rw (r, t) refl)
         (λ (n : some_below k (shows (history_of log) k) ≡ false). absurd (f (no_member (get_or table c 0) (nobody n))))
-        (either (some_below k (shows (history_of log) k)))
+        (cases_Bool (some_below k (shows (history_of log) k)))
       where
         nobody : some_below k (shows (history_of log) k) ≡ false → (i : ℕ) → has (get_or table c 0) i ≡ false
         nobody n i =
@@ -56,7 +57,7 @@ module _ (log : List ℕ) (k : ℕ) where
             ∙ some_none (λ e. is_by (history_of log) e i && writes_copy (history_of log) e c) k
             (λ e l.
             ap (λ (b : Bool). is_by (history_of log) e i && b) (sym (shown e) ∙ none_some (shows (history_of log) k) k n e l)
-            ∙ and_nothing (is_by (history_of log) e i))
+            ∙ and-false (is_by (history_of log) e i))
 
     -- 8: the item's set has the transaction, and the copy's set has it not
     pub past_kept : (items : List ℕ) (x t : ℕ) → KeptItems log k items → x ≡ item log k → t ≡ transaction log k

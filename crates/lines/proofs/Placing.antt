@@ -12,7 +12,8 @@ use mathlib.Core.Option.{Option, none, some}
 use lib.ListN.{length}
 use Rattle.sets.specs.Search.{count_below, without}
 use Rattle.sets.specs.Paths.{Precedes, by_edge, edge_then, Acyclic}
-use Rattle.sets.proofs.Truth.{clash, refuted}
+use Rattle.std.proofs.lemmas.Bool.{false_from_ne_true}
+use borrow.Author.Clash.{clash}
 use Rattle.sets.proofs.Searches.{First, first_some}
 use Rattle.sets.proofs.Counts.{count_none, count_some, count_without, is_another, passed_before, without_itself, without_other}
 use Rattle.lines.specs.Rule.{among, predecessor, ready, next, placed, rest}
@@ -121,7 +122,7 @@ module _ (edge : ℕ → ℕ → Bool) where
 
     -- and every line that keeps every edge is made so
     first_ready : (left : ℕ → Bool) (x : ℕ) (xs : List ℕ) → Line edge left (x ∷ xs) → ready n edge left x ≡ true
-    first_ready left x xs l = is_ready edge n left x there (λ s m. refuted (predecessor edge left x s) (blocks s))
+    first_ready left x xs l = is_ready edge n left x there (λ s m. false_from_ne_true (predecessor edge left x s) (blocks s))
       where
         there : left x ≡ true
         there = sym (l.all_and_only x) ∙ among_first x xs
@@ -184,7 +185,7 @@ module _ (edge : ℕ → ℕ → Bool) where
     -- at the end none can be placed: every place takes one, so as many places as there are members are enough
     none_ready : (left : ℕ → Bool) → count_below n left ≤ 0 → next n edge left ≡ none
     none_ready left c =
-        none_next edge n left (λ t l. not_ready_out edge n left t (refuted (left t) (λ h. omega (arith, c, count_some left n t l h))))
+        none_next edge n left (λ t l. not_ready_out edge n left t (false_from_ne_true (left t) (λ h. omega (arith, c, count_some left n t l h))))
 
     pub rest_ends : (m : ℕ) (left : ℕ → Bool) → count_below n left ≤ m → next n edge (rest n edge m left) ≡ none
     rest_ends zero left c = ap (next n edge) (rest_zero n edge left) ∙ none_ready left c

@@ -11,7 +11,8 @@ use lib.ListN.{length, take, drop, get_or, length-append}
 use lib.Seq.{drop-cons, split_at}
 use Rattle.sets.specs.Search.{count_below}
 use Rattle.sets.specs.Paths.{Precedes, by_edge, edge_then}
-use Rattle.sets.proofs.Truth.{clash, or_hit_left}
+use Rattle.std.proofs.lemmas.Bool.{or_left}
+use borrow.Author.Clash.{clash}
 use Rattle.sets.proofs.Searches.{First, first_none, first_some}
 use Rattle.lines.specs.Rule.{among, place_of, lowest_member, turned, to_lowest, predecessor, lowest_predecessor, walk, up_to}
 use Rattle.lines.specs.Lines.{NoneTwice, edge_within, Below, Linked, Cycle, Stuck}
@@ -120,7 +121,7 @@ module _ (edge : ℕ → ℕ → Bool) where
               none_twice = (twice_split ring after (subst NoneTwice whole p.none_twice)).first;
               members = λ u m.
                   let on_path = ap (λ (xs : List ℕ). among xs u) whole ∙ among_append ring after u in
-                  p.all_left u (on_path ∙ or_hit_left (among ring u) (among after u) m);
+                  p.all_left u (on_path ∙ or_left (among ring u) (among after u) m);
               round =
                   subst (Linked (edge_within edge left)) (sym (append_assoc front (s ∷ []) (b ∷ [])))
                   (linked_join (edge_within edge left) front s (b ∷ [])

@@ -10,7 +10,8 @@ use mathlib.Core.Option.{Option, none, some}
 use lib.ListN.{length, take}
 use Rattle.sets.specs.Search.{first_below, count_below}
 use Rattle.sets.specs.Paths.{Acyclic}
-use Rattle.sets.proofs.Truth.{clash, refuted}
+use Rattle.std.proofs.lemmas.Bool.{false_from_ne_true}
+use borrow.Author.Clash.{clash}
 use Rattle.sets.proofs.Searches.{None, First, first_none, first_some, first_view}
 use Rattle.sets.proofs.Counts.{count_low}
 use Rattle.lines.specs.Rule.{among, next, placed, rest, lowest_predecessor, walk, to_lowest, sorted, LineOrCycle, line, cycle, members_of}
@@ -80,7 +81,7 @@ module _ (n : ℕ) (edge : ℕ → ℕ → Bool) where
     }
       where
         gone : (t : ℕ) → rest n edge n set t ≡ false
-        gone t = refuted (rest n edge n set t) (λ h. clash (rest n edge n set t) h (f t (low t (rest_within edge n n set t h))))
+        gone t = false_from_ne_true (rest n edge n set t) (λ h. clash (rest n edge n set t) h (f t (low t (rest_within edge n n set t h))))
 
     -- one is left
     left_stuck : (t : ℕ) → left_over t ≡ true → Stuck edge left_over

@@ -7,7 +7,7 @@ use mathlib.Core.Path.{◌≡◌, refl, sym}
 use mathlib.Core.Bool.{Bool, true, false}
 use mathlib.Core.Option.{none, some}
 use Rattle.sets.specs.Search.{without}
-use Rattle.sets.proofs.Truth.{clash}
+use borrow.Author.Clash.{clash}
 use Rattle.sets.proofs.From.{FirstFrom}
 use Rattle.sets.proofs.Counts.{is_another, passed_before}
 use Rattle.lines.specs.Rule.{predecessor, ready, next, lowest_predecessor}

@@ -3,6 +3,7 @@ use Prim.Native.Nat.{ℕ, zero, suc, ◌*◌, ◌-◌, ◌/◌, ◌%◌, ◌^◌
 use native.Mathlib.Omega.{arith}
 use native.Mathlib.Nat.{mod-lt, pow-suc, div-lt_iff_lt-mul, le-div_iff_mul-le, one-le-pow, div-lt_self}
 use native.Mathlib.Decide.{dec_lt}
+use native.Mathlib.Numerals.{sub-one}
 use mathlib.Core.Path.{◌≡◌, refl, sym, ◌∙◌, ap, ap₂, subst}
 use mathlib.Core.List.{List, [], ◌∷◌, ◌++◌}
 use lib.ListN.{length, length-append}
@@ -19,14 +20,11 @@ more_digits : (most n : ℕ) → 10 ≤ n → decimal_within (suc most) n ≡ de
 unfolding decimal_within
 more_digits most n l = rw (le-ltb n 10 l) refl
 
-tens : (k : ℕ) → 10 ^ suc k ≡ 10 ^ k * 10
-tens k = pow-suc 10 k
-
 tenth_below : (n k : ℕ) → n < 10 ^ suc k → n / 10 < 10 ^ k
-tenth_below n k l = (div-lt_iff_lt-mul {k = 10} {x = n} {y = 10 ^ k} (omega arith)).1 (rw (tens k) at l)
+tenth_below n k l = (div-lt_iff_lt-mul {k = 10} {x = n} {y = 10 ^ k} (omega arith)).1 (rw (pow-suc 10 k) at l)
 
 tenth_above : (n k : ℕ) → 10 ^ suc k ≤ n → 10 ^ k ≤ n / 10
-tenth_above n k l = (le-div_iff_mul-le {k = 10} {x = 10 ^ k} {y = n} (omega arith)).1 (rw (tens k) at l)
+tenth_above n k l = (le-div_iff_mul-le {k = 10} {x = 10 ^ k} {y = n} (omega arith)).1 (rw (pow-suc 10 k) at l)
 
 -- a number below 10 ^ k has at most k digits
 short_within : (most k n : ℕ) → n < 10 ^ suc k → length (decimal_within most n) ≤ suc k
@@ -37,7 +35,7 @@ short_within (suc most) k n l = go k l (dec_lt n 10) (short_within most)
     go : (k : ℕ) → n < 10 ^ suc k → Dec (n < 10) → ((k n : ℕ) → n < 10 ^ suc k → length (decimal_within most n) ≤ suc k)
         → length (decimal_within (suc most) n) ≤ suc k
     go k l (yes m) ih = rw (one_digit most n m) (omega arith)
-    go zero l (no m) ih = absurd (omega (arith, l, m, tens 0))
+    go zero l (no m) ih = absurd (omega (arith, l, m, pow-suc 10 0))
     go (suc k) l (no m) ih =
         rw (more_digits most n (omega (arith, m)))
         (omega (
@@ -55,39 +53,32 @@ pub byte_short : (n : ℕ) → n < 256 → length (decimal n) ≤ 3
 unfolding decimal
 byte_short n l = short_within (suc n) 2 n (omega (arith, l))
 
--- a byte is a number of 64 bits
-pub byte_wide : {n : ℕ} → n < 256 → n < 2 ^ 64
-byte_wide l = omega (arith, l)
-
 -- as `io` says a digit
 glyph_is : (n : ℕ) → hex_digit_ascii (n % 10) ≡ digit (n % 10)
 unfolding digit
 glyph_is n = rw (lt-ltb (n % 10) 10 (mod-lt n (omega arith))) refl
-
-pred : (k : ℕ) → suc k - 1 ≡ k
-pred k = omega arith
 
 -- the fewest digits that hold a number are its digits in decimal
 spelled_within : (k most n : ℕ) → IsDigitCount 10 1 n k → n < most → last_digits 10 k n ≡ decimal_within most n
 spelled_within zero most n f l = absurd (omega (arith, f.0))
 spelled_within (suc k) zero n f l = absurd (omega (arith, l))
 spelled_within (suc zero) (suc most) n f l =
-    ap (λ (d : ℕ). d ∷ []) (glyph_is n) ∙ sym (one_digit most n (omega (arith, f.1, tens 0)))
+    ap (λ (d : ℕ). d ∷ []) (glyph_is n) ∙ sym (one_digit most n (omega (arith, f.1, pow-suc 10 0)))
 spelled_within (suc (suc k)) (suc most) n f l =
     ap₂ (λ (ds : List ℕ) (d : ℕ). ds ++ d ∷ []) (spelled_within (suc k) most (n / 10) fewest shorter) (glyph_is n)
     ∙ sym (more_digits most n large)
   where
     at_least : 10 ^ suc k ≤ n
-    at_least = subst (λ (j : ℕ). 10 ^ j ≤ n) (pred (suc k)) (f.2 (omega arith))
+    at_least = subst (λ (j : ℕ). 10 ^ j ≤ n) (sub-one (suc (suc k))) (f.2 (omega arith))
 
     large : 10 ≤ n
-    large = omega (arith, at_least, tens k, one-le-pow k 10 (omega arith))
+    large = omega (arith, at_least, pow-suc 10 k, one-le-pow k 10 (omega arith))
 
     shorter : n / 10 < most
     shorter = omega (arith, l, large, div-lt_self {n = n} {k = 10} (omega (arith, large)) (omega arith))
 
     fewest : IsDigitCount 10 1 (n / 10) (suc k)
-    fewest = (omega arith, tenth_below n (suc k) f.1, λ m. subst (λ (j : ℕ). 10 ^ j ≤ n / 10) (sym (pred k)) (tenth_above n k at_least))
+    fewest = (omega arith, tenth_below n (suc k) f.1, λ m. subst (λ (j : ℕ). 10 ^ j ≤ n / 10) (sym (sub-one (suc k))) (tenth_above n k at_least))
 
 pub spelled : (k n : ℕ) → IsDigitCount 10 1 n k → last_digits 10 k n ≡ decimal n
 unfolding decimal

@@ -8,10 +8,6 @@ use borrow.Author.Tests.{lt-ltb, le-ltb, eq-eqb, ne_eqb}
 use Rattle.questions.specs.Text.{printed_source, printed_edge}
 use Rattle.questions.specs.Asked.{head_bytes, number_at, printed_asked}
 
--- the part of a list from place k on, as the code lends it, is what stands behind its first k
-pub part_behind : (k : ℕ) (xs : List ℕ) → take (length xs - k) (drop k xs) ≡ drop k xs
-part_behind k xs = ap (λ (n : ℕ). take n (drop k xs)) (sym (length-drop k xs)) ∙ take-length (drop k xs)
-
 module _ (input : List ℕ) where
   pub no_question : length input < head_bytes → printed_asked input ≡ []
   unfolding printed_asked

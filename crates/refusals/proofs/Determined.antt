@@ -10,7 +10,6 @@ use Rattle.refusals.specs.declared.refusal.Refusal.TheVariants.{TooLong, Ragged,
 use Rattle.refusals.specs.declared.refusal.Refusal.TheVariants.{ReadsUnwritten, ReadsPastOwn, NeverCommits, BadQuestion}
 use Rattle.refusals.specs.declared.refusal.Checked.{Checked}
 use Rattle.refusals.specs.declared.refusal.Checked.TheVariants.{Passed, Refused}
-use Rattle.rules.proofs.Answers.{said_number, said_place}
 
 -- the refusal of a number and a place: the cases stand in the order of their numbers
 abbrev refusal_of : ℕ → ℕ → Refusal
@@ -34,20 +33,8 @@ known BadQuestion = refl
 pub same_refusal : (r s : Refusal) → number_of r ≡ number_of s → place_of r ≡ place_of s → r ≡ s
 same_refusal r s n p = sym (known r) ∙ ap₂ refusal_of n p ∙ known s
 
-pub no_zero : (r : Refusal) → number_of r ≡ 0 → ⊥
-no_zero TooLong e = omega arith
-no_zero Ragged e = omega arith
-no_zero ShortBuffer e = omega arith
-no_zero (BadKind k) e = omega arith
-no_zero (OutOfRange k) e = omega arith
-no_zero (AfterCommit k) e = omega arith
-no_zero (ReadsUnwritten k) e = omega arith
-no_zero (ReadsPastOwn k) e = omega arith
-no_zero (NeverCommits k) e = omega arith
-no_zero BadQuestion e = omega arith
-
 pub same_checked : (a b : Checked) → checked_says a ≡ checked_says b → a ≡ b
 same_checked Passed Passed e = refl
-same_checked Passed (Refused s) e = absurd (no_zero s (sym (ap said_number e)))
-same_checked (Refused r) Passed e = absurd (no_zero r (ap said_number e))
-same_checked (Refused r) (Refused s) e = ap Refused (same_refusal r s (ap said_number e) (ap said_place e))
+same_checked Passed (Refused s) e = cc
+same_checked (Refused r) Passed e = cc
+same_checked (Refused r) (Refused s) e = ap Refused (same_refusal r s (cc) (cc))

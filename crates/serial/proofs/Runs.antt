@@ -8,7 +8,7 @@ use mathlib.Core.Option.{Option, none, some}
 use mathlib.Core.Logic.{◌⊎◌, inl, inr, ⊎_elim}
 use borrow.Author.Tests.{eq-eqb, ne_eqb}
 use Rattle.sets.specs.Search.{or_else}
-use Rattle.sets.proofs.Truth.{clash}
+use borrow.Author.Clash.{clash}
 use Rattle.lines.specs.Rule.{among}
 use Rattle.lines.specs.Lines.{NoneTwice, stands_before}
 use Rattle.lines.proofs.Lists.{among_nil, among_first, among_later, among_cases}

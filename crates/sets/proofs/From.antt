@@ -10,19 +10,21 @@ use mathlib.Core.Option.{Option, none, some, get_or}
 use lib.Dec.{leb}
 use borrow.Author.Tests.{leb-true, le-leb, lt-leb}
 use Rattle.sets.specs.Search.{some_below, some_from, first_below, first_from}
-use Rattle.sets.proofs.Truth.{clash, same_truth, and_true, and_left, and_right, or_cases, or_hit_left, or_hit_right}
+use Rattle.std.proofs.lemmas.Bool.{and_from, and_parts, or_cases, or_left, or_right}
+use borrow.Author.Clash.{clash}
+use Rattle.sets.proofs.Truth.{same_truth}
 use Rattle.sets.proofs.Searches.{some_hit, some_found, some_none, First, first_none, first_some, first_view, only_between}
 
 module _ (p : ℕ → Bool) where
   pub from_hit : (k n e : ℕ) → k ≤ e → e < n → p e ≡ true → some_from k n p ≡ true
   unfolding some_from
-  from_hit k n e m l h = some_hit (λ x. leb k x && p x) n e l (and_true (leb k e) (p e) (le-leb k e m) h)
+  from_hit k n e m l h = some_hit (λ x. leb k x && p x) n e l (and_from (leb k e) (p e) (le-leb k e m) h)
 
   pub from_found : (k n : ℕ) → some_from k n p ≡ true → (e : ℕ) × (k ≤ e) × (e < n) × (p e ≡ true)
   unfolding some_from
   from_found k n h =
       let w = some_found (λ x. leb k x && p x) n h in
-      (w.0, leb-true k w.0 (and_left (leb k w.0) (p w.0) w.2), w.1, and_right (leb k w.0) (p w.0) w.2)
+      (w.0, leb-true k w.0 (and_parts (leb k w.0) (p w.0) w.2).0, w.1, (and_parts (leb k w.0) (p w.0) w.2).1)
 
   pub from_end : (n : ℕ) → some_from n n p ≡ false
   unfolding some_from
@@ -40,8 +42,8 @@ module _ (p : ℕ → Bool) where
       ahead h = let w = from_found k n h in go w.0 w.1 w.2 w.3 (ℕ_discrete k w.0)
         where
           go : (e : ℕ) → k ≤ e → e < n → p e ≡ true → Dec (k ≡ e) → (some_from (k + 1) n p || p k) ≡ true
-          go e a b q (yes s) = or_hit_right (some_from (k + 1) n p) (p k) (rw s q)
-          go e a b q (no s) = or_hit_left (some_from (k + 1) n p) (p k) (from_hit (k + 1) n e (omega arith) b q)
+          go e a b q (yes s) = or_right (some_from (k + 1) n p) (p k) (rw s q)
+          go e a b q (no s) = or_left (some_from (k + 1) n p) (p k) (from_hit (k + 1) n e (omega arith) b q)
 
       back : (some_from (k + 1) n p || p k) ≡ true → some_from k n p ≡ true
       back h =
@@ -71,7 +73,7 @@ module _ (p : ℕ → Bool) where
           record {
             within = omega (arith, l);
             none_before = λ e m z. none_from e m (f e z);
-            passes = λ z. (leb-true k r (and_left (leb k r) (p r) h), and_right (leb k r) (p r) h);
+            passes = λ z. (leb-true k r (and_parts (leb k r) (p r) h).0, (and_parts (leb k r) (p r) h).1);
           }
 
   -- and there is only one

@@ -6,7 +6,7 @@ use native.Mathlib.Omega.{arith}
 use mathlib.Core.Path.{◌≡◌, sym, ◌∙◌}
 use mathlib.Core.Bool.{Bool, true, false}
 use mathlib.Core.List.{List}
-use mathlib.Core.Option.{some, some-ne-none}
+use mathlib.Core.Option.{some}
 use lib.ListN.{get_or, set}
 use Rattle.sets.specs.Bits.{numbers}
 use Rattle.sets.specs.Search.{without}
@@ -98,7 +98,7 @@ module _ (edge : ℕ → ℕ → Bool) (left : ℕ → Bool) where
             says = sym is_next;
             kept = looking.trying.kept;
             searched = looking.trying.searched;
-            blocked = λ e. absurd (some-ne-none t (sym is_next ∙ e));
+            blocked = λ e. absurd (cc);
           }
         where
           free : Free numbers edge left t numbers

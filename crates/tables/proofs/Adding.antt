@@ -7,7 +7,7 @@ use mathlib.Core.Bool.{Bool, true, false, ◌&&◌, ◌||◌}
 use lib.Dec.{eqb}
 use lib.ListN.{replicate}
 use Rattle.sets.specs.Bits.{has, in_row, Holds}
-use Rattle.sets.proofs.Truth.{or_nothing}
+use Rattle.std.proofs.Math.Bool.{or-false}
 use Rattle.sets.proofs.Tables.{holds_same, holds_none}
 use Rattle.sets.proofs.Gathered.{none_from, all_from, from_more, from_stays}
 use Rattle.histories.specs.History.{is_by}
@@ -31,7 +31,7 @@ added_twice true own a b here = refl
 added_twice false false a b here = refl
 added_twice false true true true true = refl
 added_twice false true true true false = refl
-added_twice false true true false here = or_nothing here
+added_twice false true true false here = or-false here
 added_twice false true false b here = refl
 
 module _ (log : List ℕ) where

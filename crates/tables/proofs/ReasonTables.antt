@@ -5,7 +5,7 @@ use mathlib.Core.List.{List}
 use mathlib.Core.Bool.{false, not}
 use lib.Dec.{eqb}
 use lib.ListN.{length}
-use Rattle.sets.proofs.Truth.{and_nothing}
+use Rattle.std.proofs.Math.Bool.{and-false}
 use Rattle.sets.proofs.Tables.{row_past}
 use Rattle.rules.specs.Record.{transactions}
 use Rattle.tables.specs.ReasonTables.{any_reason}
@@ -13,4 +13,4 @@ use Rattle.tables.specs.ReasonTables.{any_reason}
 pub past_all : (first second third : List ℕ) → length first ≡ transactions → length second ≡ transactions → length third ≡ transactions
     → (i j : ℕ) → transactions ≤ i → any_reason first second third i j ≡ false
 past_all first second third a b c i j l =
-    rw (row_past first i j (rw a l), row_past second i j (rw b l), row_past third i j (rw c l), and_nothing (not (eqb i j))) refl
+    rw (row_past first i j (rw a l), row_past second i j (rw b l), row_past third i j (rw c l), and-false (not (eqb i j))) refl

@@ -10,4 +10,4 @@ pub returns-then-above-eq0 : goal.returns-then-above-eq0
 returns-then-above-eq0 c = sym (none_from c.args.set c.args.from 64 c.if-above-eq0.true)
 
 pub returns : goal.returns
-returns c = sym (lowest_from c.args.set c.args.from 64 c.ranges.set.fits c.if-above-eq0.false)
+returns c = sym (lowest_from c.args.set c.args.from c.ranges.set.fits c.if-above-eq0.false)

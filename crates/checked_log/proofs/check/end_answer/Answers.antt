@@ -1,7 +1,6 @@
 -- What the check leaves to show of `checked_log::check::end_answer`; its invariant stands beside this file.
-use Rattle.std.proofs.Common.{Bool, ap, ap₂, arith, false, not, sym, ◌&&◌, ◌∙◌, ◌≡◌}
+use Rattle.std.proofs.Common.{Bool, ap, ap₂, arith, below_more, false, not, sym, ◌&&◌, ◌∙◌, ◌≡◌}
 use Rattle.sets.specs.Bits.{has}
-use Rattle.sets.proofs.Searches.{none_more}
 use Rattle.rules.specs.Refusals.{never_commits}
 use Rattle.checked_log.proofs.EndKept.{all_commit, never_kept, same_sets, open_at}
 use Rattle.checked_log.proofs.check.end_answer.Goals as goal
@@ -32,7 +31,7 @@ passes c =
 
 pub loop-t-preserved : goal.loop-t-preserved
 loop-t-preserved c =
-    (omega arith, none_more (never_commits c.args.log.now) c.loop-t.t c.loop-t.invariant.1 (passes (goal.at.loop-t-preserved c).Joined-has_member))
+    (omega arith, below_more (λ t. never_commits c.args.log.now t ≡ false) c.loop-t.t c.loop-t.invariant.1 (passes (goal.at.loop-t-preserved c).Joined-has_member))
 
 pub returns : goal.returns
 returns c =

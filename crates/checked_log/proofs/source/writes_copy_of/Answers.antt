@@ -1,6 +1,6 @@
 -- `checked_log::source::writes_copy_of` meets its contract: a write writes the copy that it names, and no other.
 use Rattle.std.proofs.Common.{Bool, ap, eq-eqb, eqb, ne_eqb, sym, ℕ, ◌&&◌, ◌∙◌, ◌≡◌}
-use Rattle.sets.proofs.Truth.{and_nothing, and_always}
+use Rattle.std.proofs.Math.Bool.{and-false, and-true}
 use Rattle.histories.specs.Source.{shows}
 use Rattle.histories.proofs.OfTransactions.{writes_copy_of}
 use Rattle.rules.specs.LogHistory.{history_of}
@@ -30,7 +30,7 @@ returns-then-copy_at c =
     sym
     (by_copies here
     ∙ ap (λ (b : Bool). writes here && b) (ne_eqb c.copy_at.result c.copy_at-2.result c.if-copy_at.true)
-    ∙ and_nothing (writes here))
+    ∙ and-false (writes here))
 
 pub returns : goal.returns
 returns c =
@@ -38,4 +38,4 @@ returns c =
     let log = c.args.log.now in
     let is_copy = eq-eqb c.copy_at.result c.copy_at-2.result c.if-copy_at.false in
     let is_written : eqb c.kind_at.result 2 ≡ writes here = ap (λ (b : ℕ). eqb b 2) c.kind_at.ensures ∙ sym (write_byte log c.args.e) in
-    is_written ∙ sym (by_copies here ∙ ap (λ (b : Bool). writes here && b) is_copy ∙ and_always (writes here))
+    is_written ∙ sym (by_copies here ∙ ap (λ (b : Bool). writes here && b) is_copy ∙ and-true (writes here))

@@ -2,7 +2,8 @@
 use Rattle.std.proofs.Common.{List, ap, ap₂, arith, drop, sym, ℕ, ◌∙◌}
 use Rattle.printing.proofs.Puts.{put_none, whole, prints_same}
 use Rattle.questions.specs.Text.{printed_source, printed_edge}
-use Rattle.questions.proofs.Asks.{part_behind, no_question, edge_asked, source_asked}
+use Rattle.std.proofs.lemmas.List.{take_rest}
+use Rattle.questions.proofs.Asks.{no_question, edge_asked, source_asked}
 use Rattle.questions.proofs.asked.asked_text.Goals as goal
 
 pub returns-then-input-lt-HEAD : goal.returns-then-input-lt-HEAD
@@ -17,7 +18,7 @@ returns-then-input-eq-EDGE c =
     let i = c.number_at-first.result in
     let j = c.number_at-second.result in
     prints_same
-    (ap (λ (log : List ℕ). printed_edge log i j) (part_behind 5 input)
+    (ap (λ (log : List ℕ). printed_edge log i j) (take_rest input 5)
     ∙ ap₂ (printed_edge (drop 5 input)) c.number_at-first.ensures c.number_at-second.ensures
     ∙ sym asked)
     c.edge_text.ensures
@@ -27,7 +28,7 @@ returns c =
     let input = c.args.input.now in
     let asked = source_asked input (omega (arith, c.if-input-lt-HEAD.false)) (λ q. omega (arith, c.if-input-eq-EDGE.false, q)) in
     prints_same
-    (ap (λ (log : List ℕ). printed_source log c.number_at-first.result) (part_behind 5 input)
+    (ap (λ (log : List ℕ). printed_source log c.number_at-first.result) (take_rest input 5)
     ∙ ap (printed_source (drop 5 input)) c.number_at-first.ensures
     ∙ sym asked)
     c.source_text.ensures

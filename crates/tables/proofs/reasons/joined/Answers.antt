@@ -1,7 +1,7 @@
 -- What the check leaves to show of `tables::reasons::joined`; its invariant stands beside this file.
 use Rattle.std.proofs.Common.{Bool, ap, arith, eqb, not, ◌&&◌, ◌||◌, ◌∙◌}
 use Rattle.sets.specs.Bits.{in_row}
-use Rattle.sets.proofs.Truth.{and_swap}
+use Rattle.std.proofs.Math.Bool.{and_comm}
 use Rattle.sets.proofs.Tables.{rows_none, rows_more}
 use Rattle.rules.specs.Record.{transactions}
 use Rattle.tables.specs.ReasonTables.{any_reason}
@@ -22,5 +22,5 @@ loop-i-preserved c =
           (λ j.
           c.without_member.ensures j
           ∙ ap (λ (b : Bool). b && not (eqb l.i j)) (c.union-all.ensures j ∙ ap (λ (b : Bool). b || in_row third l.i j) (c.union.ensures j))
-          ∙ and_swap (in_row first l.i j || in_row second l.i j || in_row third l.i j) (not (eqb l.i j))),
+          ∙ and_comm (in_row first l.i j || in_row second l.i j || in_row third l.i j) (not (eqb l.i j))),
     )
