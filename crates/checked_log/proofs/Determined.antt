@@ -1,9 +1,6 @@
 -- The promises determine the answers of a check and of the question of a source.
-use Prim.Native.Nat.{ℕ, suc}
-use native.Mathlib.Omega.{arith}
-use mathlib.Core.Path.{◌≡◌, refl, sym, ◌∙◌, ap, ap₂}
-use mathlib.Core.List.{List}
-use mathlib.Core.Option.{Option, none, some}
+use Rattle.std.proofs.Common.{ℕ, suc, arith, ◌≡◌, refl, sym, ◌∙◌, ap, ap₂, List}
+use Rattle.std.proofs.Math.Option.{Option, none, some}
 use Rattle.histories.specs.Source.{Source}
 use Rattle.rules.specs.Answer.{Answer, gives, refused}
 use Rattle.refusals.specs.declared.refusal.Checked.{Checked}

@@ -1,11 +1,7 @@
 -- Number 9, from the sets of those named and of those that have committed.
-use Prim.Native.Nat.{ℕ, ◌<◌}
-use mathlib.Core.Path.{◌≡◌, refl, sym, ◌∙◌, ap, ap₂}
-use mathlib.Core.List.{List}
-use mathlib.Core.Bool.{Bool, true, false, not, ◌&&◌}
+use Rattle.std.proofs.Common.{ℕ, ◌<◌, ◌≡◌, refl, sym, ◌∙◌, ap, ap₂, List, Bool, true, false, not, ◌&&◌, get_or}
+use Rattle.std.proofs.Math.Option.{Option}
 use mathlib.Core.Option
-use mathlib.Core.Option.{Option}
-use lib.ListN.{get_or}
 use Rattle.sets.specs.Bits.{has}
 use Rattle.histories.specs.Earlier.{some_before, committed}
 use Rattle.rules.specs.Answer.{refused, passed}

@@ -1,12 +1,8 @@
 -- The cycle is cut out of the path, from its start to where the one stands who came again, and is written in two parts, from its lowest
 -- number on.
-use Prim.Native.Nat.{ℕ, suc, ◌+◌, ◌-◌, ◌<◌, ◌≤◌}
-use native.Mathlib.Omega.{arith}
-use mathlib.Core.Path.{◌≡◌, sym, ◌∙◌, ap}
-use mathlib.Core.Bool.{true}
-use mathlib.Core.List.{List}
-use lib.ListN.{length, take, drop, length-drop}
-use lib.Seq.{sets, slice, take-add, take-take, drop_at, drop-drop, length-take-le}
+use Rattle.std.proofs.Common.{ℕ, suc, ◌+◌, ◌-◌, ◌<◌, ◌≤◌, arith, ◌≡◌, sym, ◌∙◌, ap, true, List, length, take, drop, length-drop, take-add, take-take}
+use Rattle.std.proofs.Common.{drop_at, drop-drop, length-take-le}
+use Rattle.std.proofs.Math.Seq.{sets, slice}
 use Rattle.lines.specs.Rule.{among, place_of, lowest_member, turned, to_lowest, up_to}
 use Rattle.lines.proofs.Turned.{length_turned, lowest_member_in, to_lowest_said}
 use Rattle.lines.proofs.Lists.{place_low, sets_append}

@@ -1,14 +1,9 @@
 -- Laws of parts of a buffer: written one by one they stand in the other buffer as a list does, and the place of a number in a part, or of
 -- its lowest, is where it is found first.
-use Prim.Native.Nat.{ℕ, suc, ◌+◌, ◌-◌, ◌<◌, ◌≤◌}
-use native.Mathlib.Omega.{arith}
-use native.Mathlib.Numerals.{add-one}
-use mathlib.Core.Path.{◌≡◌, refl, sym, ◌∙◌, ap, ap₂}
-use mathlib.Core.Bool.{true}
-use mathlib.Core.List.{List, [], ◌∷◌, ◌++◌}
-use native.Mathlib.Decide.{ℕ_discrete}
-use lib.ListN.{length, take, drop, get_or, set, length-drop}
-use lib.Seq.{sets, slice, sets-eq, take_at, length-slice, slice_empty, take-suc, get_or-take, get_or-drop, drop-append-le, length-take-le}
+use Rattle.std.proofs.Common.{ℕ, suc, ◌+◌, ◌-◌, ◌<◌, ◌≤◌, arith, add-one, ◌≡◌, refl, sym, ◌∙◌, ap, ap₂, true, List, [], ◌∷◌, ◌++◌, length, take, drop}
+use Rattle.std.proofs.Common.{get_or, set, length-drop, take_at, take-suc, get_or-take, get_or-drop, length-take-le}
+use Rattle.std.proofs.Math.Decide.{ℕ_discrete}
+use Rattle.std.proofs.Math.Seq.{sets, slice, sets-eq, length-slice, slice_empty, drop-append-le}
 use Rattle.lines.specs.Rule.{among, place_of, lowest_member}
 use Rattle.lines.proofs.Lists.{place_low, place_entry, place_before, sets_append}
 use Rattle.lines.proofs.Turned.{lowest_place_is}

@@ -1,18 +1,11 @@
 -- While the walk goes back, the path at the end of the buffer is the rule's path, and what is still to come is the rule's walk. No
 -- transaction is on it twice, so it never outgrows the buffer.
-use Prim.Native.Nat.{ℕ, suc, ◌-◌, ◌<◌, ◌≤◌}
-use native.Mathlib.Omega.{arith}
-use mathlib.Core.Path.{◌≡◌, refl, sym, ◌∙◌, ap, subst}
-use mathlib.Core.Bool.{Bool, true, false, ◌||◌, cond}
-use mathlib.Core.Logic.{⊎_elim}
-use mathlib.Core.List.{List, [], ◌∷◌}
-use mathlib.Core.Option.{Option}
-use lib.Dec.{eqb}
-use lib.ListN.{length, drop, get_or, set, length-set, length-drop, drop_of_length-le}
+use Rattle.std.proofs.Common.{ℕ, suc, ◌-◌, ◌<◌, ◌≤◌, arith, ◌≡◌, refl, sym, ◌∙◌, ap, subst, Bool, true, false, ◌||◌, cond, ⊎_elim, List, [], ◌∷◌, eqb}
+use Rattle.std.proofs.Common.{length, drop, get_or, set, length-set, length-drop, drop_of_length-le, add-one}
+use Rattle.std.proofs.Math.Option.{Option}
 use Rattle.std.proofs.lemmas.List.{drop-set}
-use native.Mathlib.Numerals.{add-one}
-use Rattle.sets.specs.Bits.{has}
 use Rattle.std.proofs.Math.Bool.{or_comm}
+use Rattle.sets.specs.Bits.{has}
 use borrow.Author.Clash.{clash}
 use Rattle.sets.proofs.Members.{has_zero}
 use Rattle.sets.proofs.Counts.{count_low}

@@ -1,7 +1,5 @@
 -- The promises determine the answers about a graph, and the table that was lent.
-use Prim.Native.Nat.{ℕ}
-use mathlib.Core.Path.{◌≡◌, sym, ◌∙◌, ap}
-use mathlib.Core.List.{List}
+use Rattle.std.proofs.Common.{ℕ, ◌≡◌, sym, ◌∙◌, ap, List}
 use Rattle.rules.specs.Answer.{Answer, gives, refused}
 use Rattle.refusals.proofs.Determined.{same_refusal}
 use Rattle.edges.specs.Numbers.{graph_says, edge_says}

@@ -1,14 +1,10 @@
 -- For every sound history: the chapter's first condition, its second where the graph has no cycle, and its Lemma 8.1. Of two writers one
 -- comes first, which is an edge; and so is one from a reader of the first to the second. A path the other way would make a cycle.
-use Prim.Native.Nat.{ℕ, ◌<◌}
-use native.Mathlib.Omega.{arith}
-use native.Mathlib.Decide.{ℕ_discrete, dec_lt}
-use mathlib.Core.Path.{◌≡◌, refl, sym, ◌∙◌, ap, subst}
-use mathlib.Core.Bool.{true}
-use mathlib.Core.Option.{some}
-use mathlib.Core.Logic.{inl, inr, ⊎_elim}
-use Rattle.sets.specs.Paths.{by_edge, edge_then, Acyclic}
+use Rattle.std.proofs.Common.{ℕ, ◌<◌, arith, ◌≡◌, refl, sym, ◌∙◌, ap, subst, true, inl, inr, ⊎_elim}
+use Rattle.std.proofs.Math.Decide.{ℕ_discrete, dec_lt}
+use Rattle.std.proofs.Math.Option.{some}
 use Rattle.std.proofs.lemmas.Bool.{and_parts}
+use Rattle.sets.specs.Paths.{by_edge, edge_then, Acyclic}
 use borrow.Author.Clash.{clash}
 use Rattle.histories.specs.History.{History, Counts, conflicting}
 use Rattle.histories.specs.Earlier.{wrote_item, Writer}

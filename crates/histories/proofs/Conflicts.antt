@@ -1,15 +1,9 @@
 -- Which later records conflict with a record: with a read the writes of its copy, with a write every use of it, with a record that does
 -- neither none.
-use Prim.Native.Nat.{ℕ, ◌+◌, ◌<◌}
-use native.Mathlib.Omega.{arith}
-use mathlib.Core.Path.{◌≡◌, refl, sym, ◌∙◌}
-use mathlib.Core.Bool.{Bool, true, false, ◌&&◌, ◌||◌}
-use mathlib.Core.Logic.{◌⊎◌, inl, inr}
-use lib.Dec.{eqb}
-use borrow.Author.Tests.{eq-eqb}
-use Rattle.sets.specs.Search.{some_from}
+use Rattle.std.proofs.Common.{ℕ, ◌+◌, ◌<◌, arith, ◌≡◌, refl, sym, ◌∙◌, Bool, true, false, ◌&&◌, ◌||◌, ◌⊎◌, inl, inr, eqb, eq-eqb}
 use Rattle.std.proofs.Math.Bool.{and-true, and-false, or-false}
 use Rattle.std.proofs.lemmas.Bool.{cases_Bool, or_left, or_right}
+use Rattle.sets.specs.Search.{some_from}
 use borrow.Author.Clash.{clash}
 use Rattle.histories.specs.History.{History, is_by, uses, uses_copy, writes_copy, on_same_copy, conflicting}
 use Rattle.histories.specs.Earlier.{some_after}

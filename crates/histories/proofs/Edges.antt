@@ -1,15 +1,10 @@
 -- Edges and reasons: an edge joins two that take part, for one of the three reasons; its reason is the lowest that applies, and 0 exactly
 -- where there is no edge.
-use Prim.Native.Nat.{ℕ, ◌<◌, ◌≤◌}
-use native.Mathlib.Omega.{arith}
-use native.Mathlib.Decide.{dec_lt}
-use mathlib.Core.Path.{◌≡◌, refl, sym, ap, subst}
-use mathlib.Core.Bool.{Bool, true, false, not, ◌&&◌, ◌||◌, cond, true≢false}
-use mathlib.Core.Logic.{◌⊎◌, inl, inr, ⊎_elim, ◌↔◌}
-use lib.Dec.{eqb}
-use borrow.Author.Tests.{ne_eqb, eqb-false, not-true}
+use Rattle.std.proofs.Common.{ℕ, ◌<◌, ◌≤◌, arith, ◌≡◌, refl, sym, ap, subst, Bool, true, false, not, ◌&&◌, ◌||◌, cond, true≢false, ◌⊎◌, inl, inr}
+use Rattle.std.proofs.Common.{⊎_elim, ◌↔◌, eqb, ne_eqb}
+use Rattle.std.proofs.Math.Decide.{dec_lt}
+use Rattle.std.proofs.lemmas.Bool.{eqb-false, not-true, cases_Bool, and_parts, or_cases, or_left, or_right}
 use Rattle.std.proofs.Math.Bool.{and-false}
-use Rattle.std.proofs.lemmas.Bool.{cases_Bool, and_parts, or_cases, or_left, or_right}
 use borrow.Author.Clash.{clash}
 use Rattle.histories.specs.History.{History}
 use Rattle.histories.specs.Earlier.{writes}

@@ -1,16 +1,11 @@
 -- Records of a transaction that pass a test, before a record, in all, after a record, and the first: found, and shown by one. So what a
 -- transaction has written.
-use Prim.Native.Nat.{ℕ, ◌+◌, ◌<◌}
-use native.Mathlib.Omega.{arith}
-use mathlib.Core.Path.{◌≡◌, refl, sym, ◌∙◌, ap}
-use mathlib.Core.Bool.{Bool, true, false, ◌&&◌, ◌||◌}
-use mathlib.Core.Option.{Option, none, some}
-use lib.Dec.{eqb}
-use borrow.Author.Tests.{eq-eqb, eqb-true}
-use Rattle.sets.specs.Search.{first_below}
-use Rattle.sets.specs.Bits.{has}
+use Rattle.std.proofs.Common.{ℕ, ◌+◌, ◌<◌, arith, ◌≡◌, refl, sym, ◌∙◌, ap, Bool, true, false, ◌&&◌, ◌||◌, eqb, eq-eqb, eqb-true}
+use Rattle.std.proofs.Math.Option.{Option, none, some}
 use Rattle.std.proofs.Math.Bool.{and-true, and-false}
 use Rattle.std.proofs.lemmas.Bool.{and_from, and_parts}
+use Rattle.sets.specs.Search.{first_below}
+use Rattle.sets.specs.Bits.{has}
 use borrow.Author.Clash.{clash}
 use Rattle.sets.proofs.Searches.{some_hit, some_found, First, first_none, first_some, first_view, first_found}
 use Rattle.sets.proofs.From.{from_hit, from_found}

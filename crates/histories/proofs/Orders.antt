@@ -1,15 +1,10 @@
 -- The two laws of the write order: of two different writers of an item one comes first, and not the other too. Nothing leans on its being
 -- transitive.
-use Prim.Native.Nat.{ℕ, ◌<◌}
-use native.Mathlib.Omega.{arith}
-use native.Mathlib.Decide.{ℕ_discrete, dec_lt}
-use mathlib.Core.Path.{◌≡◌, refl, sym, ◌∙◌, ap, ap₂, subst}
-use mathlib.Core.Bool.{Bool, true, not, ◌&&◌, true≢false}
-use mathlib.Core.Option.{Option, none, some}
-use mathlib.Core.Logic.{◌⊎◌, inl, inr}
-use lib.Dec.{eqb}
-use borrow.Author.Tests.{ne_eqb, eqb-false, not-true, lt-ltb, ltb-true}
-use Rattle.std.proofs.lemmas.Bool.{and_from, and_parts}
+use Rattle.std.proofs.Common.{ℕ, ◌<◌, arith, ◌≡◌, refl, sym, ◌∙◌, ap, ap₂, subst, Bool, true, not, ◌&&◌, true≢false, ◌⊎◌, inl, inr, eqb, ne_eqb}
+use Rattle.std.proofs.Common.{lt-ltb, ltb-true}
+use Rattle.std.proofs.Math.Decide.{ℕ_discrete, dec_lt}
+use Rattle.std.proofs.Math.Option.{Option, none, some}
+use Rattle.std.proofs.lemmas.Bool.{eqb-false, not-true, and_from, and_parts}
 use Rattle.sets.proofs.Truth.{same_truth}
 use Rattle.histories.specs.History.{History}
 use Rattle.histories.specs.Earlier.{some_of, some_after, first_of, writes, Writer}

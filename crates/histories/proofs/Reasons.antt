@@ -1,9 +1,6 @@
 -- What each reason says, as facts of records and of the write order, there and back; so nothing above opens one of the three.
-use Prim.Native.Nat.{ℕ, ◌<◌}
-use mathlib.Core.Path.{◌≡◌, refl, sym, ◌∙◌}
-use mathlib.Core.Bool.{true, false, ◌&&◌}
-use mathlib.Core.Option.{Option, none, some}
-use mathlib.Core.Logic.{⊎_elim}
+use Rattle.std.proofs.Common.{ℕ, ◌<◌, ◌≡◌, refl, sym, ◌∙◌, true, false, ◌&&◌, ⊎_elim}
+use Rattle.std.proofs.Math.Option.{Option, none, some}
 use Rattle.std.proofs.Math.Bool.{and-false}
 use Rattle.std.proofs.lemmas.Bool.{cases_Bool, and_parts}
 use borrow.Author.Clash.{clash}

@@ -1,12 +1,8 @@
 -- The source of a record: the last write of its copy that the record does not pass over, with none between.
-use Prim.Native.Nat.{ℕ, ◌<◌}
-use native.Mathlib.Omega.{arith}
-use mathlib.Core.Path.{◌≡◌, refl, ◌∙◌, ap, subst}
-use mathlib.Core.Bool.{Bool, true, false, cond}
-use mathlib.Core.Logic.{◌↔◌}
-use mathlib.Core.Option.{Option, none, some, map}
-use Rattle.sets.specs.Search.{last_below}
+use Rattle.std.proofs.Common.{ℕ, ◌<◌, arith, ◌≡◌, refl, ◌∙◌, ap, subst, Bool, true, false, cond, ◌↔◌}
+use Rattle.std.proofs.Math.Option.{Option, none, some, map}
 use Rattle.std.proofs.lemmas.Bool.{and_from, and_parts}
+use Rattle.sets.specs.Search.{last_below}
 use borrow.Author.Clash.{clash}
 use Rattle.sets.proofs.Searches.{Last, last_none, last_some, last_hit, last_miss, last_found, last_view, some_none}
 use Rattle.histories.specs.History.{History, writes_copy}

@@ -1,19 +1,13 @@
 -- What the check keeps, from record k to record k + 1: each law takes the sets as the code stores them. A set gains the record's
 -- transaction where the record counts, and stays where it does not.
-use Prim.Native.Nat.{ℕ, ◌+◌, ◌<◌}
-use native.Mathlib.Omega.{arith}
-use mathlib.Core.Path.{◌≡◌, refl, sym, ◌∙◌, ap, ap₂}
-use mathlib.Core.List.{List}
-use mathlib.Core.Bool.{Bool, true, false, ◌&&◌, ◌||◌}
-use mathlib.Core.Option.{some}
-use lib.Dec.{eqb}
-use lib.ListN.{get_or, set, replicate, length-set, length-replicate}
-use lib.Seq.{get_or-set_same, get_or-set_other}
-use native.Mathlib.Decide.{ℕ_discrete}
-use borrow.Author.Tests.{eq-eqb, ne_eqb}
+use Rattle.std.proofs.Common.{ℕ, ◌+◌, ◌<◌, arith, ◌≡◌, refl, sym, ◌∙◌, ap, ap₂, List, Bool, true, false, ◌&&◌, ◌||◌, eqb, get_or, set, replicate}
+use Rattle.std.proofs.Common.{length-set, get_or-set_same, get_or-set_other, eq-eqb, ne_eqb}
+use Rattle.std.proofs.Math.Option.{some}
+use Rattle.std.proofs.Math.ListN.{length-replicate}
+use Rattle.std.proofs.Math.Decide.{ℕ_discrete}
+use Rattle.std.proofs.Math.Bool.{and_comm, or-false}
 use Rattle.sets.specs.Search.{some_below, first_below}
 use Rattle.sets.specs.Bits.{has}
-use Rattle.std.proofs.Math.Bool.{and_comm, or-false}
 use borrow.Author.Clash.{clash}
 use Rattle.sets.proofs.Searches.{some_more, some_zero, none_some, first_hit, first_stays}
 use Rattle.sets.proofs.Members.{has_zero}

@@ -1,14 +1,9 @@
 -- Numbers 6 to 8 at a record, by what is kept of the records before it: each test is one look at a set.
-use Prim.Native.Nat.{ℕ, ◌<◌}
-use mathlib.Core.Path.{◌≡◌, refl, sym, ◌∙◌, ap}
-use mathlib.Core.List.{List}
-use mathlib.Core.Bool.{Bool, true, false, not, ◌&&◌}
-use mathlib.Core.Logic.{⊎_elim}
-use lib.ListN.{get_or}
-use Rattle.sets.specs.Search.{some_below}
-use Rattle.sets.specs.Bits.{has}
+use Rattle.std.proofs.Common.{ℕ, ◌<◌, ◌≡◌, refl, sym, ◌∙◌, ap, List, Bool, true, false, not, ◌&&◌, ⊎_elim, get_or}
 use Rattle.std.proofs.Math.Bool.{and-false}
 use Rattle.std.proofs.lemmas.Bool.{cases_Bool}
+use Rattle.sets.specs.Search.{some_below}
+use Rattle.sets.specs.Bits.{has}
 use Rattle.sets.proofs.Searches.{some_none, none_some}
 use Rattle.sets.proofs.Members.{has_zero, no_member}
 use Rattle.histories.specs.Faults.{after_commit, reads_unwritten, reads_past_own}

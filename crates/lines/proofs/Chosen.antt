@@ -1,12 +1,8 @@
 -- Laws of the rule's tests: who is a predecessor, who is ready, who is next.
-use Prim.Native.Nat.{ℕ, ◌<◌}
-use mathlib.Core.Path.{◌≡◌, refl, sym, ◌∙◌, ap}
-use mathlib.Core.Bool.{Bool, true, false, ◌&&◌, not}
-use mathlib.Core.Option.{none, some}
-use lib.Dec.{eqb}
-use borrow.Author.Tests.{ne_eqb, eqb-false, not-true}
+use Rattle.std.proofs.Common.{ℕ, ◌<◌, ◌≡◌, refl, sym, ◌∙◌, ap, Bool, true, false, ◌&&◌, not, eqb, ne_eqb}
+use Rattle.std.proofs.Math.Option.{none, some}
+use Rattle.std.proofs.lemmas.Bool.{eqb-false, not-true, false_from_ne_true, and_from, and_parts}
 use Rattle.sets.specs.Search.{some_below, without}
-use Rattle.std.proofs.lemmas.Bool.{false_from_ne_true, and_from, and_parts}
 use borrow.Author.Clash.{clash}
 use Rattle.sets.proofs.Searches.{None, First, first_some, first_found, some_none, none_some, first_view, first_none_below}
 use Rattle.sets.proofs.Searches.{first_hit, first_miss, some_found}

@@ -1,18 +1,12 @@
 -- Laws of lists of numbers: what is among them, the place of a number, none twice, and that numbers of a set without one twice are no
 -- more than the set has; and lists that are written one after the other.
-use Prim.Native.Nat.{ℕ, zero, suc, ◌+◌, ◌<◌, ◌≤◌}
-use native.Mathlib.Omega.{arith}
-use native.Mathlib.Decide.{ℕ_discrete}
-use mathlib.Core.Path.{◌≡◌, refl, sym, ◌∙◌, ap, subst}
-use mathlib.Core.Bool.{Bool, true, false, ◌||◌, or_assoc}
-use mathlib.Core.Logic.{◌⊎◌, inl, inr, ⊎_elim}
-use mathlib.Core.List.{List, [], ◌∷◌, ◌++◌}
-use lib.Dec.{eqb}
-use lib.ListN.{length, take, get_or, set, length-append}
-use lib.Seq.{sets, get_or-append_seam}
-use borrow.Author.Tests.{eq-eqb, ne_eqb, eqb-true}
-use Rattle.sets.specs.Search.{count_below, without}
+use Rattle.std.proofs.Common.{ℕ, zero, suc, ◌+◌, ◌<◌, ◌≤◌, arith, ◌≡◌, refl, sym, ◌∙◌, ap, subst, Bool, true, false, ◌||◌, ◌⊎◌, inl, inr, ⊎_elim}
+use Rattle.std.proofs.Common.{List, [], ◌∷◌, ◌++◌, eqb, length, take, get_or, set, length-append, eq-eqb, ne_eqb, eqb-true}
+use Rattle.std.proofs.Math.Decide.{ℕ_discrete}
+use Rattle.std.proofs.Math.Bool.{or_assoc}
+use Rattle.std.proofs.Math.Seq.{sets, get_or-append_seam}
 use Rattle.std.proofs.lemmas.Bool.{false_from_ne_true, or_cases, or_left, or_right, or_parts, or_from}
+use Rattle.sets.specs.Search.{count_below, without}
 use borrow.Author.Clash.{clash}
 use Rattle.sets.proofs.Counts.{count_without, without_other}
 use Rattle.lines.specs.Rule.{among, place_of, up_to}

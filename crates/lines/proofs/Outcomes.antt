@@ -1,9 +1,5 @@
 -- A line or a cycle is told by its length: laws of what the rule gives, whatever it is.
-use Prim.Native.Nat.{ℕ}
-use native.Mathlib.Omega.{arith}
-use mathlib.Core.Path.{◌≡◌, refl, sym, ap}
-use mathlib.Core.List.{List}
-use lib.ListN.{length}
+use Rattle.std.proofs.Common.{ℕ, arith, ◌≡◌, refl, sym, ap, List, length}
 use Rattle.lines.specs.Rule.{LineOrCycle, line, cycle, members_of, length_of}
 
 -- how many members, and which of the two it is

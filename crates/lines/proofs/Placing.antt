@@ -1,18 +1,12 @@
 -- The line. Placing one that is ready, again and again until none is left, gives a line that keeps every edge, and every such line is made
 -- in that way; the rule's is the smallest, since it takes the lowest that any of them could take. From a stuck rest there is none: of the
 -- rest, one would stand first in it, before the predecessor that it waits for.
-use Prim.Native.Nat.{ℕ, zero, suc, ◌<◌, ◌≤◌}
-use native.Mathlib.Omega.{arith}
-use native.Mathlib.Decide.{ℕ_discrete, dec_lt}
-use mathlib.Core.Path.{◌≡◌, refl, sym, ◌∙◌, ap, subst}
-use mathlib.Core.Bool.{Bool, true, false}
-use mathlib.Core.Logic.{⊎_elim}
-use mathlib.Core.List.{List, [], ◌∷◌}
-use mathlib.Core.Option.{Option, none, some}
-use lib.ListN.{length}
+use Rattle.std.proofs.Common.{ℕ, zero, suc, ◌<◌, ◌≤◌, arith, ◌≡◌, refl, sym, ◌∙◌, ap, subst, Bool, true, false, ⊎_elim, List, [], ◌∷◌, length}
+use Rattle.std.proofs.Math.Decide.{ℕ_discrete, dec_lt}
+use Rattle.std.proofs.Math.Option.{Option, none, some}
+use Rattle.std.proofs.lemmas.Bool.{false_from_ne_true}
 use Rattle.sets.specs.Search.{count_below, without}
 use Rattle.sets.specs.Paths.{Precedes, by_edge, edge_then, Acyclic}
-use Rattle.std.proofs.lemmas.Bool.{false_from_ne_true}
 use borrow.Author.Clash.{clash}
 use Rattle.sets.proofs.Searches.{First, first_some}
 use Rattle.sets.proofs.Counts.{count_none, count_some, count_without, is_another, passed_before, without_itself, without_other}

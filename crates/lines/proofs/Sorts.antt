@@ -1,16 +1,10 @@
 -- What the rule gives, over any edges and any set of numbers below n: the smallest line, or a cycle where there is no line. So a line
 -- exists exactly where there is no cycle, and exactly where the rule gives one.
-use Prim.Native.Nat.{ℕ, ◌≤◌}
-use native.Mathlib.Omega.{arith}
-use mathlib.Core.Path.{◌≡◌, refl, sym, ◌∙◌, ap, subst}
-use mathlib.Core.Bool.{Bool, true, false}
-use mathlib.Core.Logic.{⊎_elim, ◌↔◌}
-use mathlib.Core.List.{List, [], ◌∷◌, ◌++◌}
-use mathlib.Core.Option.{Option, none, some}
-use lib.ListN.{length, take}
+use Rattle.std.proofs.Common.{ℕ, ◌≤◌, arith, ◌≡◌, refl, sym, ◌∙◌, ap, subst, Bool, true, false, ⊎_elim, ◌↔◌, List, [], ◌∷◌, ◌++◌, length, take}
+use Rattle.std.proofs.Math.Option.{Option, none, some}
+use Rattle.std.proofs.lemmas.Bool.{false_from_ne_true}
 use Rattle.sets.specs.Search.{first_below, count_below}
 use Rattle.sets.specs.Paths.{Acyclic}
-use Rattle.std.proofs.lemmas.Bool.{false_from_ne_true}
 use borrow.Author.Clash.{clash}
 use Rattle.sets.proofs.Searches.{None, First, first_none, first_some, first_view}
 use Rattle.sets.proofs.Counts.{count_low}

@@ -1,13 +1,7 @@
 -- The lowest number of a list, where it stands, and the list turned so that it starts with it.
-use Prim.Native.Nat.{ℕ, suc, ◌<◌, ◌≤◌, min}
-use native.Mathlib.Omega.{arith}
-use native.Mathlib.Decide.{dec_lt}
-use mathlib.Core.Path.{◌≡◌, refl, sym, ◌∙◌, ap, subst}
-use mathlib.Core.Bool.{true}
-use mathlib.Core.Logic.{⊎_elim}
-use mathlib.Core.List.{List, [], ◌∷◌, ◌++◌}
-use lib.ListN.{length, take, drop, get_or, length-append, length-drop, take-append-drop}
-use lib.Seq.{drop-cons, length-take-le}
+use Rattle.std.proofs.Common.{ℕ, suc, ◌<◌, ◌≤◌, min, arith, ◌≡◌, refl, sym, ◌∙◌, ap, subst, true, ⊎_elim, List, [], ◌∷◌, ◌++◌, length, take, drop}
+use Rattle.std.proofs.Common.{get_or, length-append, length-drop, take-append-drop, drop-cons, length-take-le}
+use Rattle.std.proofs.Math.Decide.{dec_lt}
 use Rattle.std.proofs.Math.Bool.{or_comm}
 use borrow.Author.Clash.{clash}
 use Rattle.lines.specs.Rule.{among, place_of, lowest_member, turned, to_lowest}

@@ -1,11 +1,8 @@
 -- Who waits for whom, told number by number: one that is left is ready where no predecessor of it is left, and else the first that has an
 -- edge to it is its lowest predecessor. So a search that goes through those left from the lowest on finds the one that is next.
-use Prim.Native.Nat.{ℕ, ◌+◌, ◌<◌}
-use native.Mathlib.Omega.{arith}
-use native.Mathlib.Decide.{ℕ_discrete, dec_lt}
-use mathlib.Core.Path.{◌≡◌, refl, sym}
-use mathlib.Core.Bool.{Bool, true, false}
-use mathlib.Core.Option.{none, some}
+use Rattle.std.proofs.Common.{ℕ, ◌+◌, ◌<◌, arith, ◌≡◌, refl, sym, Bool, true, false}
+use Rattle.std.proofs.Math.Decide.{ℕ_discrete, dec_lt}
+use Rattle.std.proofs.Math.Option.{none, some}
 use Rattle.sets.specs.Search.{without}
 use borrow.Author.Clash.{clash}
 use Rattle.sets.proofs.From.{FirstFrom}

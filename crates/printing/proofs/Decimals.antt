@@ -1,13 +1,8 @@
 -- Laws of numbers in decimal: how many digits they have, and that `io::decimal` writes them. The only file that opens `decimal`.
-use Prim.Native.Nat.{ℕ, zero, suc, ◌*◌, ◌-◌, ◌/◌, ◌%◌, ◌^◌, ◌<◌, ◌≤◌}
-use native.Mathlib.Omega.{arith}
-use native.Mathlib.Nat.{mod-lt, pow-suc, div-lt_iff_lt-mul, le-div_iff_mul-le, one-le-pow, div-lt_self}
-use native.Mathlib.Decide.{dec_lt}
-use native.Mathlib.Numerals.{sub-one}
-use mathlib.Core.Path.{◌≡◌, refl, sym, ◌∙◌, ap, ap₂, subst}
-use mathlib.Core.List.{List, [], ◌∷◌, ◌++◌}
-use lib.ListN.{length, length-append}
-use borrow.Author.Tests.{lt-ltb, le-ltb}
+use Rattle.std.proofs.Common.{ℕ, zero, suc, ◌*◌, ◌-◌, ◌/◌, ◌%◌, ◌^◌, ◌<◌, ◌≤◌, arith, mod-lt, pow-suc, div-lt_iff_lt-mul, le-div_iff_mul-le, sub-one}
+use Rattle.std.proofs.Common.{◌≡◌, refl, sym, ◌∙◌, ap, ap₂, subst, List, [], ◌∷◌, ◌++◌, length, length-append, lt-ltb, le-ltb}
+use Rattle.std.proofs.Math.Nat.{one-le-pow, div-lt_self}
+use Rattle.std.proofs.Math.Decide.{dec_lt}
 use Rattle.io.specs.Digits.{hex_digit_ascii, last_digits, IsDigitCount}
 use Rattle.printing.specs.Lines.{digit, decimal_within, decimal}
 

@@ -1,7 +1,5 @@
 -- The promises of src/line.rt and src/put.rt, and of whoever prints a text, determine what is answered and every byte of the buffer lent.
-use Prim.Native.Nat.{ℕ}
-use mathlib.Core.Path.{◌≡◌, sym, ◌∙◌}
-use mathlib.Core.List.{List}
+use Rattle.std.proofs.Common.{ℕ, ◌≡◌, sym, ◌∙◌, List}
 use Rattle.printing.specs.Kept.{Put}
 use Rattle.printing.specs.Promises.{Prints}
 

@@ -1,11 +1,8 @@
 -- Laws of bytes put into a buffer: one by one, and one run after another.
-use Prim.Native.Nat.{ℕ, ◌+◌, ◌<◌, ◌≤◌}
-use native.Mathlib.Omega.{arith}
-use native.Mathlib.Numerals.{add-one}
-use mathlib.Core.Path.{◌≡◌, refl, sym, ◌∙◌, ap, ap₂, subst}
-use mathlib.Core.List.{List, [], ◌∷◌, ◌++◌}
-use lib.ListN.{length, take, get_or, set, replicate, length-append, length-replicate}
-use lib.Seq.{sets, length-sets, take-suc, length-take-le, take-length}
+use Rattle.std.proofs.Common.{ℕ, ◌+◌, ◌<◌, ◌≤◌, arith, add-one, ◌≡◌, refl, sym, ◌∙◌, ap, ap₂, subst, List, [], ◌∷◌, ◌++◌, length, take, get_or, set}
+use Rattle.std.proofs.Common.{replicate, length-append, take-suc, length-take-le}
+use Rattle.std.proofs.Math.ListN.{length-replicate}
+use Rattle.std.proofs.Math.Seq.{sets, length-sets, take-length}
 use Rattle.lines.proofs.Lists.{sets_append}
 use Rattle.printing.specs.Lines.{text_room}
 use Rattle.printing.specs.Kept.{Put}

@@ -1,10 +1,7 @@
 -- What is printed for a question in bytes, case by case.
-use Prim.Native.Nat.{ℕ, ◌-◌, ◌<◌, ◌≤◌}
-use mathlib.Core.Path.{◌≡◌, refl, sym, ◌∙◌, ap}
-use mathlib.Core.List.{List, []}
-use lib.ListN.{length, get_or, take, drop, length-drop}
-use lib.Seq.{take-length}
-use borrow.Author.Tests.{lt-ltb, le-ltb, eq-eqb, ne_eqb}
+use Rattle.std.proofs.Common.{ℕ, ◌-◌, ◌<◌, ◌≤◌, ◌≡◌, refl, sym, ◌∙◌, ap, List, [], length, get_or, take, drop, length-drop, lt-ltb, le-ltb, eq-eqb}
+use Rattle.std.proofs.Common.{ne_eqb}
+use Rattle.std.proofs.Math.Seq.{take-length}
 use Rattle.questions.specs.Text.{printed_source, printed_edge}
 use Rattle.questions.specs.Asked.{head_bytes, number_at, printed_asked}
 

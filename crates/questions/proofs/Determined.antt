@@ -1,7 +1,5 @@
 -- The promises of this crate determine what is answered and every byte of the text lent.
-use Prim.Native.Nat.{ℕ}
-use mathlib.Core.Path.{◌≡◌}
-use mathlib.Core.List.{List}
+use Rattle.std.proofs.Common.{ℕ, ◌≡◌, List}
 use Rattle.printing.proofs.Determined.{same_text}
 use Rattle.questions.specs.Promises.{PrintsSource, PrintsEdge, PrintsAsked}
 

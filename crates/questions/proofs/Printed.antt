@@ -1,9 +1,6 @@
 -- Laws of the questions' lines: what each answer's line is.
-use Prim.Native.Nat.{ℕ}
-use mathlib.Core.Path.{◌≡◌, refl}
-use mathlib.Core.Bool.{true, false}
-use mathlib.Core.List.{◌++◌}
-use mathlib.Core.Option.{none, some}
+use Rattle.std.proofs.Common.{ℕ, ◌≡◌, refl, true, false, ◌++◌}
+use Rattle.std.proofs.Math.Option.{none, some}
 use Rattle.histories.specs.Source.{Source}
 use Rattle.rules.specs.Answer.{gives, refused}
 use Rattle.printing.specs.Lines.{newline, numbers_line, refusal_line}

@@ -1,9 +1,5 @@
 -- A refusal is known by its number and place, so two answers of a check that say the same are the same.
-use Prim.Native.Nat.{ℕ, ◌-◌}
-use native.Mathlib.Omega.{arith}
-use mathlib.Core.Path.{◌≡◌, refl, sym, ◌∙◌, ap, ap₂}
-use mathlib.Core.List.{[], ◌∷◌}
-use lib.ListN.{get_or}
+use Rattle.std.proofs.Common.{ℕ, ◌-◌, arith, ◌≡◌, refl, sym, ◌∙◌, ap, ap₂, [], ◌∷◌, get_or}
 use Rattle.refusals.specs.Numbers.{number_of, place_of, checked_says}
 use Rattle.refusals.specs.declared.refusal.Refusal.{Refusal}
 use Rattle.refusals.specs.declared.refusal.Refusal.TheVariants.{TooLong, Ragged, ShortBuffer, BadKind, OutOfRange, AfterCommit}

@@ -1,7 +1,5 @@
 -- Laws of answers in order: what it takes to pass, and which refusal is given.
-use Prim.Native.Nat.{ℕ}
-use mathlib.Core.Path.{◌≡◌, refl, sym, ap, ap₂}
-use mathlib.Core.Bool.{Bool, true, false, true≢false}
+use Rattle.std.proofs.Common.{ℕ, ◌≡◌, refl, sym, ap, ap₂, Bool, true, false, true≢false}
 use Rattle.rules.specs.Answer.{Answer, gives, refused, passed, ◌then◌}
 
 -- a refusal is no answer

@@ -1,11 +1,6 @@
 -- The answers to the questions and of the graph, case by case: the check's refusal, then 10, then what was asked for.
-use Prim.Native.Nat.{ℕ, ◌≤◌, ◌<◌}
-use mathlib.Core.Path.{◌≡◌, refl}
-use mathlib.Core.List.{List, [], ◌∷◌, ◌++◌}
-use mathlib.Core.Bool.{Bool, true, false, ◌||◌}
-use lib.Dec.{leb}
-use borrow.Author.Tests.{le-leb, lt-leb}
-use Rattle.std.proofs.lemmas.Bool.{or_right}
+use Rattle.std.proofs.Common.{ℕ, ◌≤◌, ◌<◌, ◌≡◌, refl, List, [], ◌∷◌, ◌++◌, Bool, true, false, ◌||◌, leb, le-leb}
+use Rattle.std.proofs.lemmas.Bool.{lt-leb, or_right}
 use Rattle.histories.specs.Source.{source}
 use Rattle.histories.specs.Reasons.{reason}
 use Rattle.rules.specs.Answer.{gives, refused, passed, ◌then◌}

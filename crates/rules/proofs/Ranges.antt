@@ -1,12 +1,6 @@
 -- What a record has that passes 4 and 5: a known kind, and numbers within the limits.
-use Prim.Native.Nat.{ℕ, ◌<◌}
-use native.Mathlib.Omega.{arith}
-use mathlib.Core.Path.{◌≡◌}
-use mathlib.Core.List.{List, [], ◌∷◌}
-use mathlib.Core.Bool.{Bool, true, false, not, ◌&&◌, cond}
-use lib.Dec.{eqb, ltb}
-use borrow.Author.Tests.{ltb-true, eqb-true, not-false}
-use Rattle.std.proofs.lemmas.Bool.{and_parts}
+use Rattle.std.proofs.Common.{ℕ, ◌<◌, arith, ◌≡◌, List, [], ◌∷◌, Bool, true, false, not, ◌&&◌, cond, eqb, ltb, ltb-true, eqb-true}
+use Rattle.std.proofs.lemmas.Bool.{not-false, and_parts}
 use Rattle.rules.specs.Rows.{row, NoneOf}
 use Rattle.rules.specs.Record.{Within, transactions, items, sites, kind, transaction, item, site, records, commit_kind}
 use Rattle.rules.specs.Form.{known_kind, in_range, form_rows}

@@ -1,12 +1,7 @@
 -- What a table of refusals answers, for any table: exactly what its rows say, part after part, record after record, and the lowest number
 -- of those that have a row each.
-use Prim.Native.Nat.{ℕ, zero, suc, ◌+◌, ◌<◌}
-use native.Mathlib.Numerals.{add-one}
-use native.Mathlib.Omega.{arith}
-use mathlib.Core.Path.{◌≡◌, refl, sym, ◌∙◌, ap, ap₂}
-use mathlib.Core.Bool.{Bool, true, false, cond, true≢false}
-use mathlib.Core.List.{List, [], ◌∷◌, ◌++◌}
-use mathlib.Core.Logic.{◌⊎◌, inl, inr, ⊎_elim, ◌↔◌}
+use Rattle.std.proofs.Common.{ℕ, zero, suc, ◌+◌, ◌<◌, add-one, arith, ◌≡◌, refl, sym, ◌∙◌, ap, ap₂, Bool, true, false, cond, true≢false, List, []}
+use Rattle.std.proofs.Common.{◌∷◌, ◌++◌, ◌⊎◌, inl, inr, ⊎_elim, ◌↔◌}
 use Rattle.sets.proofs.Searches.{below_cases}
 use Rattle.rules.specs.Answer.{Answer, gives, refused, passed, ◌then◌}
 use Rattle.rules.specs.Rows.{Row, answer_of, over, one_each, NoneOf, FirstOf}

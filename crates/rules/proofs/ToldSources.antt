@@ -1,13 +1,6 @@
 -- What the answer to "source of record k" says of a log's bytes: which write record it names, and when it is none.
-use Prim.Native.Nat.{ℕ, ◌<◌}
-use native.Mathlib.Omega.{arith}
-use mathlib.Core.Path.{◌≡◌, sym, ◌∙◌, ap₂}
-use mathlib.Core.List.{List, [], ◌∷◌}
-use mathlib.Core.Logic.{◌↔◌}
-use mathlib.Core.Bool.{true, false}
-use mathlib.Core.Option.{none, some}
-use lib.Dec.{leb}
-use borrow.Author.Tests.{leb-false}
+use Rattle.std.proofs.Common.{ℕ, ◌<◌, arith, ◌≡◌, sym, ◌∙◌, ap₂, List, [], ◌∷◌, ◌↔◌, true, false, leb, leb-false}
+use Rattle.std.proofs.Math.Option.{none, some}
 use Rattle.std.proofs.lemmas.Bool.{false_from_ne_true}
 use borrow.Author.Clash.{clash}
 use Rattle.histories.specs.Source.{Source, shows, source}

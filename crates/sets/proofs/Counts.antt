@@ -1,15 +1,10 @@
 -- Laws of the count of the numbers below n that pass a test: at most n, none where nothing passes, and one less where one of them is taken
 -- out; and of a test with one taken out.
-use Prim.Native.Nat.{ℕ, zero, suc, ◌+◌, ◌<◌, ◌≤◌}
-use native.Mathlib.Omega.{arith}
-use mathlib.Core.Path.{◌≡◌, refl, sym, ◌∙◌, ap, ap₂}
-use mathlib.Core.Bool.{Bool, true, false, ◌&&◌, not, cond}
-use mathlib.Core.Logic.{⊎_elim}
-use lib.Dec.{eqb}
-use borrow.Author.Tests.{eq-eqb, ne_eqb, eqb-false, not-true}
-use Rattle.sets.specs.Search.{count_below, without}
+use Rattle.std.proofs.Common.{ℕ, zero, suc, ◌+◌, ◌<◌, ◌≤◌, arith, ◌≡◌, refl, sym, ◌∙◌, ap, ap₂, Bool, true, false, ◌&&◌, not, cond, ⊎_elim, eqb}
+use Rattle.std.proofs.Common.{eq-eqb, ne_eqb}
+use Rattle.std.proofs.lemmas.Bool.{eqb-false, not-true, and_parts}
 use Rattle.std.proofs.Math.Bool.{and-true, and-false}
-use Rattle.std.proofs.lemmas.Bool.{and_parts}
+use Rattle.sets.specs.Search.{count_below, without}
 use Rattle.sets.proofs.Searches.{below_cases}
 
 -- at most one for each number

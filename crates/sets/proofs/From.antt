@@ -1,16 +1,10 @@
 -- Laws of a search from k on: what a hit says and how to show one, nothing at the end, everything at 0, the step of a loop that
 -- counts down, and what the first one is.
-use Prim.Native.Nat.{ℕ, ◌+◌, ◌<◌, ◌≤◌}
-use native.Mathlib.Omega.{arith}
-use native.Mathlib.Decide.{ℕ_discrete}
-use mathlib.Core.Path.{◌≡◌, refl, sym, ◌∙◌, ap}
-use mathlib.Core.Bool.{Bool, true, false, ◌&&◌, ◌||◌}
-use mathlib.Core.Logic.{⊎_elim}
-use mathlib.Core.Option.{Option, none, some, get_or}
-use lib.Dec.{leb}
-use borrow.Author.Tests.{leb-true, le-leb, lt-leb}
+use Rattle.std.proofs.Common.{ℕ, ◌+◌, ◌<◌, ◌≤◌, arith, ◌≡◌, refl, sym, ◌∙◌, ap, Bool, true, false, ◌&&◌, ◌||◌, ⊎_elim, leb, leb-true, le-leb}
+use Rattle.std.proofs.Math.Decide.{ℕ_discrete}
+use Rattle.std.proofs.Math.Option.{Option, none, some, get_or}
+use Rattle.std.proofs.lemmas.Bool.{lt-leb, and_from, and_parts, or_cases, or_left, or_right}
 use Rattle.sets.specs.Search.{some_below, some_from, first_below, first_from}
-use Rattle.std.proofs.lemmas.Bool.{and_from, and_parts, or_cases, or_left, or_right}
 use borrow.Author.Clash.{clash}
 use Rattle.sets.proofs.Truth.{same_truth}
 use Rattle.sets.proofs.Searches.{some_hit, some_found, some_none, First, first_none, first_some, first_view, only_between}

@@ -1,6 +1,7 @@
 -- The zeros below the lowest 1 of a number are the numbers below the lowest member of the set; so it is found from k on by dropping the k
 -- lowest digits.
-use Rattle.std.proofs.Common.{ℕ, ◌+◌, ◌-◌, ◌<◌, ◌≤◌, ◌/◌, ◌%◌, ◌^◌, arith, ◌≡◌, sym, ◌∙◌, ap, true, false, eqb, w64, pos_of_ne-zero, lt_of_le_of_lt, shr-shr}
+use Rattle.std.proofs.Common.{ℕ, ◌+◌, ◌-◌, ◌<◌, ◌≤◌, ◌/◌, ◌%◌, ◌^◌, arith, ◌≡◌, sym, ◌∙◌, ap, true, false, eqb, w64, pos_of_ne-zero, lt_of_le_of_lt}
+use Rattle.std.proofs.Common.{shr-shr}
 use Rattle.std.proofs.lemmas.Nat.{shr_le}
 use Rattle.std.proofs.lemmas.Nat.Bits.{bit_at-trailing_zeros}
 use Rattle.std.specs.Int.{bit_at, trailing_zeros}

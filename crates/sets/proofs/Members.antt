@@ -1,9 +1,9 @@
 -- Laws of the sets of numbers below 64: a bit of 0, of a power of two, of an or and of an and; with a number added or taken out; and that
 -- sets with the same members are one number.
-use Rattle.std.proofs.Common.{ℕ, zero, suc, ◌+◌, ◌/◌, ◌%◌, ◌^◌, ◌<◌, ◌≤◌, max, min, arith, ◌≡◌, refl, sym, ◌∙◌, ap, ap₂, Bool, true, false, not}
-use Rattle.std.proofs.Common.{◌&&◌, ◌||◌, true≢false, eqb, bit_or, bit_and, bit_xor, eq-eqb, ne_eqb}
-use Rattle.std.proofs.lemmas.Nat.Bits.{bit_at-zero, bit_at_and, bit_at_or, bit_at_xor, bit_at-pow_same, bit_at-pow_other, bit_at-lt}
-use Rattle.std.proofs.lemmas.Nat.Bits.{same_from_bits, bit_at_above}
+use Rattle.std.proofs.Common.{ℕ, zero, suc, ◌+◌, ◌/◌, ◌%◌, ◌^◌, ◌<◌, ◌≤◌, max, min, arith, ◌≡◌, refl, sym, ◌∙◌, ap, ap₂, Bool, true, false, not, ◌&&◌}
+use Rattle.std.proofs.Common.{◌||◌, true≢false, eqb, bit_or, bit_and, bit_xor, eq-eqb, ne_eqb}
+use Rattle.std.proofs.lemmas.Nat.Bits.{bit_at-zero, bit_at_and, bit_at_or, bit_at_xor, bit_at-pow_same, bit_at-pow_other, bit_at-lt, same_from_bits}
+use Rattle.std.proofs.lemmas.Nat.Bits.{bit_at_above}
 use Rattle.std.proofs.Math.Decide.{ℕ_discrete, dec_lt}
 use Rattle.std.specs.Int.{bit_at}
 use borrow.Author.Clash.{clash}

@@ -1,7 +1,7 @@
 -- Laws of the searches below n, each by going through the numbers one by one: what a hit and a miss say, how to show one, and
 -- the step from n to n + 1 that a counting loop takes.
-use Rattle.std.proofs.Common.{ℕ, zero, suc, ◌+◌, ◌<◌, ◌≤◌, add-one, arith, ◌≡◌, refl, sym, ◌∙◌, ap, subst, Bool, true, false, ◌||◌, cond}
-use Rattle.std.proofs.Common.{◌⊎◌, inl, inr, ⊎_elim, below_none, below_more}
+use Rattle.std.proofs.Common.{ℕ, zero, suc, ◌+◌, ◌<◌, ◌≤◌, add-one, arith, ◌≡◌, refl, sym, ◌∙◌, ap, subst, Bool, true, false, ◌||◌, cond, ◌⊎◌, inl}
+use Rattle.std.proofs.Common.{inr, ⊎_elim, below_none, below_more}
 use Rattle.std.proofs.Math.Option.{Option, none, some}
 use Rattle.std.proofs.Math.Bool.{or_comm}
 use Rattle.std.proofs.lemmas.Bool.{false_from_ne_true}

@@ -1,23 +1,15 @@
 -- Laws of tables of sets: what a store does to the relation that a table holds, the table of a relation, and that a relation has
 -- only one table.
-use Prim.Native.Nat.{ℕ, zero, suc, ◌+◌, ◌*◌, ◌<◌, ◌≤◌, ◌^◌}
-use native.Mathlib.Omega.{arith}
-use native.Mathlib.Numerals.{add-one}
-use native.Mathlib.Decide.{ℕ_discrete, dec_lt}
-use native.Mathlib.Nat.{one-mul, pow-suc, zero-add}
-use mathlib.Core.Path.{◌≡◌, refl, sym, ◌∙◌, ap}
-use mathlib.Core.List.{List, [], ◌∷◌, ◌++◌}
-use mathlib.Core.Bool.{Bool, true, false, ◌&&◌, ◌||◌, cond}
-use mathlib.Core.Logic.{◌⊎◌, inl, inr, ⊎_elim}
-use lib.Dec.{eqb, ltb}
-use lib.ListN.{length, get_or, set, replicate, length-set, length-replicate, length-append, get_or-eq_default, get_or-append}
-use lib.ListN.{get_or-replicate}
-use lib.Seq.{get_or-set_same, get_or-set_other, ext_get_or, get_or-append_seam}
-use lib.Bits.{or_shifted}
-use borrow.Author.Tests.{eq-eqb, ne_eqb, lt-ltb, le-ltb}
-use Rattle.sets.specs.Bits.{has, in_row, set_of, table_of, Holds}
+use Rattle.std.proofs.Common.{ℕ, zero, suc, ◌+◌, ◌*◌, ◌<◌, ◌≤◌, ◌^◌, arith, add-one, one-mul, pow-suc, zero-add, ◌≡◌, refl, sym, ◌∙◌, ap, List, []}
+use Rattle.std.proofs.Common.{◌∷◌, ◌++◌, Bool, true, false, ◌&&◌, ◌||◌, cond, ◌⊎◌, inl, inr, ⊎_elim, eqb, ltb, length, get_or, set, replicate}
+use Rattle.std.proofs.Common.{length-set, length-append, get_or-set_same, get_or-set_other, ext_get_or, eq-eqb, ne_eqb, lt-ltb, le-ltb}
+use Rattle.std.proofs.Math.Decide.{ℕ_discrete, dec_lt}
+use Rattle.std.proofs.Math.ListN.{length-replicate, get_or-eq_default, get_or-append, get_or-replicate}
+use Rattle.std.proofs.Math.Seq.{get_or-append_seam}
+use Rattle.std.proofs.lemmas.Nat.{or_shifted}
 use Rattle.std.proofs.Math.Bool.{and-true, and-false, or-false}
 use Rattle.std.proofs.lemmas.Bool.{cases_Bool, false_from_ne_true}
+use Rattle.sets.specs.Bits.{has, in_row, set_of, table_of, Holds}
 use Rattle.sets.proofs.Searches.{below_cases}
 use Rattle.sets.proofs.Members.{has_zero, has_or, has_power, same_members}
 

@@ -1,12 +1,7 @@
 -- The promise of the sort determines its answer and the buffer that was lent; and what is promised means, of every table and every set,
 -- the smallest line or a cycle where there is none.
-use Prim.Native.Nat.{ℕ, ◌<◌, ◌^◌}
-use native.Mathlib.Omega.{arith}
-use native.Mathlib.Nat.{zero-add}
-use mathlib.Core.Path.{◌≡◌, sym, ◌∙◌, ap}
-use mathlib.Core.List.{List, ◌++◌}
-use lib.ListN.{length, drop}
-use lib.Seq.{sets, sets-eq}
+use Rattle.std.proofs.Common.{ℕ, ◌<◌, ◌^◌, arith, zero-add, ◌≡◌, sym, ◌∙◌, ap, List, ◌++◌, length, drop}
+use Rattle.std.proofs.Math.Seq.{sets, sets-eq}
 use Rattle.sets.specs.Bits.{numbers, has, in_row}
 use Rattle.sets.proofs.Members.{has_low}
 use Rattle.lines.specs.Rule.{members_of}

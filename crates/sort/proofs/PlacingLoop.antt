@@ -1,13 +1,7 @@
 -- The state of the placing. While the line is made, what is still to be placed and written is what the rule places from those left.
-use Prim.Native.Nat.{ℕ, suc, ◌+◌, ◌-◌, ◌<◌, ◌≤◌}
-use native.Mathlib.Omega.{arith}
-use native.Mathlib.Numerals.{add-one}
-use mathlib.Core.Path.{◌≡◌, sym, ◌∙◌, ap, subst}
-use mathlib.Core.Bool.{Bool}
-use mathlib.Core.List.{List, [], ◌∷◌}
-use mathlib.Core.Option.{none, some}
-use lib.ListN.{length, set}
-use lib.Seq.{sets}
+use Rattle.std.proofs.Common.{ℕ, suc, ◌+◌, ◌-◌, ◌<◌, ◌≤◌, arith, add-one, ◌≡◌, sym, ◌∙◌, ap, subst, Bool, List, [], ◌∷◌, length, set}
+use Rattle.std.proofs.Math.Option.{none, some}
+use Rattle.std.proofs.Math.Seq.{sets}
 use Rattle.sets.specs.Bits.{numbers}
 use Rattle.sets.specs.Search.{count_below, without}
 use Rattle.sets.proofs.Counts.{count_low, count_some, count_without, passed_before}

@@ -1,13 +1,8 @@
 -- The state of the search for the ready one. Those left are tried from the lowest on; of each, a predecessor is looked for from the one kept
 -- on, since none below is left. So each tried in vain waits for its lowest predecessor; the first that has none left is next; and where all
 -- were tried in vain, none is.
-use Prim.Native.Nat.{ℕ, ◌+◌, ◌<◌, ◌≤◌}
-use native.Mathlib.Omega.{arith}
-use mathlib.Core.Path.{◌≡◌, sym, ◌∙◌}
-use mathlib.Core.Bool.{Bool, true, false}
-use mathlib.Core.List.{List}
-use mathlib.Core.Option.{some}
-use lib.ListN.{get_or, set}
+use Rattle.std.proofs.Common.{ℕ, ◌+◌, ◌<◌, ◌≤◌, arith, ◌≡◌, sym, ◌∙◌, Bool, true, false, List, get_or, set}
+use Rattle.std.proofs.Math.Option.{some}
 use Rattle.sets.specs.Bits.{numbers}
 use Rattle.sets.specs.Search.{without}
 use Rattle.sets.proofs.From.{FirstFrom}

@@ -1,18 +1,13 @@
 -- Laws of the predecessors that are kept, in their buffer: at first none is known, one that is found is stored, and those left become
 -- fewer. And what the sets' own functions find and take out, as the rule has it.
-use Prim.Native.Nat.{ℕ, ◌+◌, ◌<◌, ◌≤◌}
-use native.Mathlib.Omega.{arith}
-use native.Mathlib.Decide.{ℕ_discrete, dec_lt}
-use mathlib.Core.Path.{◌≡◌, sym, ◌∙◌, ap, subst, fun_ext}
-use mathlib.Core.Bool.{Bool, true, false, ◌&&◌, not}
-use mathlib.Core.List.{List}
-use mathlib.Core.Option.{some}
-use lib.Dec.{eqb}
-use lib.ListN.{length, get_or, set, length-set}
-use lib.Seq.{get_or-set_same, get_or-set_other}
+use Rattle.std.proofs.Common.{ℕ, ◌+◌, ◌<◌, ◌≤◌, arith, ◌≡◌, sym, ◌∙◌, ap, subst, Bool, true, false, ◌&&◌, not, List, eqb, length, get_or, set}
+use Rattle.std.proofs.Common.{length-set, get_or-set_same, get_or-set_other}
+use Rattle.std.proofs.Math.Decide.{ℕ_discrete, dec_lt}
+use Rattle.std.proofs.Math.Path.{fun_ext}
+use Rattle.std.proofs.Math.Option.{some}
+use Rattle.std.proofs.lemmas.Bool.{false_from_ne_true}
 use Rattle.sets.specs.Bits.{numbers, has}
 use Rattle.sets.specs.Search.{first_from, without}
-use Rattle.std.proofs.lemmas.Bool.{false_from_ne_true}
 use borrow.Author.Clash.{clash}
 use Rattle.sets.proofs.From.{FirstFrom, first_from_view}
 use Rattle.sets.proofs.Counts.{without_said}

@@ -1,13 +1,7 @@
 -- What a pass from the end keeps, from record k + 1 down to record k, in the words of what the steps promise.
-use Prim.Native.Nat.{ℕ, ◌+◌, ◌-◌, ◌<◌}
-use native.Mathlib.Omega.{arith}
-use mathlib.Core.Path.{◌≡◌, refl, sym, ◌∙◌, ap, subst}
-use mathlib.Core.List.{List}
-use mathlib.Core.Bool.{Bool, true, false, ◌&&◌, ◌||◌}
-use lib.Dec.{eqb}
-use lib.ListN.{replicate}
-use Rattle.sets.specs.Bits.{has, in_row, Holds}
+use Rattle.std.proofs.Common.{ℕ, ◌+◌, ◌-◌, ◌<◌, arith, ◌≡◌, refl, sym, ◌∙◌, ap, subst, List, Bool, true, false, ◌&&◌, ◌||◌, eqb, replicate}
 use Rattle.std.proofs.Math.Bool.{or-false}
+use Rattle.sets.specs.Bits.{has, in_row, Holds}
 use Rattle.sets.proofs.Tables.{holds_same, holds_none}
 use Rattle.sets.proofs.Gathered.{none_from, all_from, from_more, from_stays}
 use Rattle.histories.specs.History.{is_by}

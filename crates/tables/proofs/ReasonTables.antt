@@ -1,10 +1,5 @@
 -- Past the end of three tables of edges there is none.
-use Prim.Native.Nat.{ℕ, ◌≤◌}
-use mathlib.Core.Path.{◌≡◌, refl}
-use mathlib.Core.List.{List}
-use mathlib.Core.Bool.{false, not}
-use lib.Dec.{eqb}
-use lib.ListN.{length}
+use Rattle.std.proofs.Common.{ℕ, ◌≤◌, ◌≡◌, refl, List, false, not, eqb, length}
 use Rattle.std.proofs.Math.Bool.{and-false}
 use Rattle.sets.proofs.Tables.{row_past}
 use Rattle.rules.specs.Record.{transactions}

@@ -1,11 +1,6 @@
 -- Laws of the whole text: a verdict's records are where its text reads them, and what is printed is the text of what the verdict says.
-use Prim.Native.Nat.{ℕ, ◌*◌, ◌<◌, ◌≤◌}
-use native.Mathlib.Omega.{arith}
-use mathlib.Core.Path.{◌≡◌, refl, sym, ◌∙◌, ap, subst}
-use mathlib.Core.Bool.{Bool, true, false}
-use mathlib.Core.List.{List, ◌++◌}
-use lib.ListN.{length, length-append}
-use lib.Seq.{sets}
+use Rattle.std.proofs.Common.{ℕ, ◌*◌, ◌<◌, ◌≤◌, arith, ◌≡◌, refl, sym, ◌∙◌, ap, subst, Bool, true, false, List, ◌++◌, length, length-append}
+use Rattle.std.proofs.Math.Seq.{sets}
 use Rattle.rules.specs.Answer.{Answer, gives, refused}
 use Rattle.rules.specs.Record.{transactions}
 use Rattle.lines.specs.Rule.{LineOrCycle, line, cycle, members_of, length_of}

@@ -1,11 +1,7 @@
 -- The promises of src/lib.rt determine what is answered and every byte of the buffers lent, and what is in the front of the text is what is
 -- printed.
-use Prim.Native.Nat.{ℕ, ◌+◌}
-use native.Mathlib.Omega.{arith}
-use mathlib.Core.Path.{◌≡◌, sym, ◌∙◌, ap}
-use mathlib.Core.List.{List, ◌++◌}
-use lib.ListN.{length, take, drop}
-use lib.Seq.{sets-eq, take_at}
+use Rattle.std.proofs.Common.{ℕ, ◌+◌, arith, ◌≡◌, sym, ◌∙◌, ap, List, ◌++◌, length, take, drop, take_at}
+use Rattle.std.proofs.Math.Seq.{sets-eq}
 use Rattle.verdict.specs.declared.answer.Verdict.{Verdict}
 use Rattle.printing.specs.Lines.{text_room}
 use Rattle.text.specs.Text.{printed}

@@ -1,8 +1,5 @@
 -- The promise of the verdict determines its answer and every byte of the buffer that was lent.
-use Prim.Native.Nat.{ℕ}
-use native.Mathlib.Omega.{arith}
-use mathlib.Core.Path.{◌≡◌, sym, ◌∙◌, ap}
-use mathlib.Core.List.{List}
+use Rattle.std.proofs.Common.{ℕ, arith, ◌≡◌, sym, ◌∙◌, ap, List}
 use Rattle.rules.proofs.Answers.{said_place}
 use Rattle.refusals.proofs.Determined.{same_refusal}
 use Rattle.lines.specs.Rule.{line, cycle}

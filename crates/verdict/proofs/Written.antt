@@ -1,11 +1,9 @@
 -- What the code keeps is what the definitions say: the sorted table is the log's line or cycle, and what is written from the sort's
 -- buffer are its records.
-use Prim.Native.Nat.{ℕ, ◌+◌, ◌<◌, ◌≤◌}
-use native.Mathlib.Omega.{arith}
-use mathlib.Core.Path.{◌≡◌, sym, ◌∙◌, ap, ap₂, subst₂, fun_ext}
-use mathlib.Core.List.{List}
-use lib.ListN.{length, get_or, drop, get_or-append}
-use lib.Seq.{sets, sets-eq}
+use Rattle.std.proofs.Common.{ℕ, ◌+◌, ◌<◌, ◌≤◌, arith, ◌≡◌, sym, ◌∙◌, ap, ap₂, subst₂, List, length, get_or, drop}
+use Rattle.std.proofs.Math.Path.{fun_ext}
+use Rattle.std.proofs.Math.ListN.{get_or-append}
+use Rattle.std.proofs.Math.Seq.{sets, sets-eq}
 use Rattle.sets.specs.Bits.{numbers, has, in_row, Holds}
 use Rattle.histories.specs.Reasons.{edge, reason}
 use Rattle.rules.specs.Answer.{gives}
