@@ -15,9 +15,6 @@ slice_more from start k l m =
     ap (drop start) (take-suc from k 0 m)
     ∙ drop-append-le start (take k from) (get_or from k 0 ∷ []) (rw (length-take-le k from (omega (arith, m))) l)
 
-pub part_none : (from to : List ℕ) (start at : ℕ) → to ≡ sets to at (slice start start from)
-part_none from to start at = sym (ap (sets to at) (slice_empty start from))
-
 pub part_more : (from to : List ℕ) (start at k : ℕ) → start ≤ k → k < length from
     → set (sets to at (slice start k from)) (at + (k - start)) (get_or from k 0) ≡ sets to at (slice start (k + 1) from)
 part_more from to start at k l m =
@@ -73,27 +70,6 @@ pub record LowestAt (buffer : List ℕ) (at low k : ℕ) : Type 0 where
   pub from : at ≤ low
   pub none_lower : (j : ℕ) → at ≤ j → j < k → get_or buffer low 0 ≤ get_or buffer j 0
   pub none_before : (j : ℕ) → at ≤ j → j < low → get_or buffer low 0 < get_or buffer j 0
-
-pub lowest_start : (buffer : List ℕ) (at : ℕ) → LowestAt buffer at at at
-lowest_start buffer at =
-    record { from = omega arith; none_lower = λ j a b. absurd (omega (arith, a, b)); none_before = λ j a b. absurd (omega (arith, a, b)) }
-
--- one more looked at: it is the lowest now, or the lowest stays
-module _ (buffer : List ℕ) (at low k : ℕ) (w : LowestAt buffer at low k) where
-  pub lowest_new : at ≤ k → get_or buffer k 0 < get_or buffer low 0 → LowestAt buffer at k (k + 1)
-  lowest_new a l =
-      record { from = a; none_lower = λ j b m. go j b m (ℕ_discrete j k); none_before = λ j b m. omega (arith, l, w.none_lower j b m) }
-    where
-      go : (j : ℕ) → at ≤ j → j < k + 1 → Dec (j ≡ k) → get_or buffer k 0 ≤ get_or buffer j 0
-      go j b m (yes q) = rw q (omega arith)
-      go j b m (no q) = omega (arith, l, w.none_lower j b (omega (arith, m, q)))
-
-  pub lowest_stays : get_or buffer low 0 ≤ get_or buffer k 0 → LowestAt buffer at low (k + 1)
-  lowest_stays l = record { from = w.from; none_lower = λ j b m. go j b m (ℕ_discrete j k); none_before = w.none_before }
-    where
-      go : (j : ℕ) → at ≤ j → j < k + 1 → Dec (j ≡ k) → get_or buffer low 0 ≤ get_or buffer j 0
-      go j b m (yes q) = rw q l
-      go j b m (no q) = w.none_lower j b (omega (arith, m, q))
 
 -- the whole part looked at: this is the place of its lowest
 pub part_lowest : (buffer : List ℕ) (at end low : ℕ) → end ≤ length buffer → low < end → LowestAt buffer at low end

@@ -95,12 +95,3 @@ module _ (n : ℕ) (waits : List ℕ) (first : ℕ) where
 
           longer : drop (at - 1) (set path (at - 1) again) ≡ again ∷ drop at path
           longer = drop-set path (at - 1) again (omega (arith, w.whole, w.inside, path_room)) ∙ ap (λ (k : ℕ). again ∷ drop k path) (add-one (at - 1) ∙ down)
-
-    -- one comes again
-    module _ (old : has seen again ≡ true) where
-      pub comes_again : among (drop at path) again ≡ true
-      comes_again = sym (w.seen_are again) ∙ old
-
-      pub walk_done : up_to again (drop at path) ≡ walk (back waits) n first (first ∷ [])
-      walk_done =
-          sym (came true comes_again) ∙ w.same_walk

@@ -18,14 +18,6 @@ byte_more bytes old at k l =
     ∙ sets_append (take k bytes) (get_or bytes k 0 ∷ []) old at
     ∙ ap (λ (e : ℕ). set (sets old at (take k bytes)) (at + e) (get_or bytes k 0)) (length-take-le k bytes (omega (arith, l))))
 
--- all are
-pub all_put : (bytes old new : List ℕ) (at k : ℕ) → k ≡ length bytes → new ≡ sets old at (take k bytes) → Put old at bytes new (at + length bytes)
-all_put bytes old new at k e w =
-    record {
-      written = w ∙ ap (λ (n : ℕ). sets old at (take n bytes)) e ∙ ap (sets old at) (take-length bytes);
-      ends = refl;
-    }
-
 -- nothing is
 pub put_none : (old : List ℕ) (at : ℕ) → Put old at [] old at
 put_none old at = record { written = refl; ends = omega arith }
@@ -46,10 +38,6 @@ put_same {old} {new} {xs} {ys} {at} {r} e p = subst (λ (b : List ℕ). Put old 
 pub put_is : {old new same xs : List ℕ} {at r q : ℕ} → same ≡ new → q ≡ r → Put old at xs new r → Put old at xs same q
 put_is e f p = record { written = e ∙ p.written; ends = f ∙ p.ends }
 
--- what a buffer has room for is inside it, whatever has been put to its front
-still_inside : {left : List ℕ} (old bytes : List ℕ) (r room : ℕ) → left ≡ sets old 0 bytes → length old ≡ room → r ≤ room → r ≤ length left
-still_inside {left} old bytes r room e whole l = omega (arith, l, whole, ap length e, length-sets old 0 bytes)
-
 -- a text that has been put to the front of a buffer with room for it
 pub whole : {old new text : List ℕ} {r : ℕ} (bytes : List ℕ) → text ≡ bytes → Put old 0 bytes new r → length bytes ≤ text_room
     → Prints text old r new
@@ -60,8 +48,3 @@ whole {old} {new} {text} {r} bytes e p l =
 pub prints_same : {old new bytes text : List ℕ} {r : ℕ} → bytes ≡ text → Prints bytes old r new → Prints text old r new
 prints_same {old} {new} {bytes} {text} {r} e p =
     record { counted = p.counted ∙ ap length e; leaves = p.leaves ∙ ap (sets old 0) e; fits = p.fits }
-
--- a text that was lent cleared has all the bytes that were printed to it
-pub printed_inside : {bytes new : List ℕ} {n : ℕ} → Prints bytes (replicate {A = ℕ} text_room 0) n new → n ≤ length new
-printed_inside {bytes} {new} {n} p =
-    still_inside (replicate {A = ℕ} text_room 0) bytes n text_room p.leaves (length-replicate {A = ℕ} text_room 0) p.fits

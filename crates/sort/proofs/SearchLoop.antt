@@ -29,9 +29,6 @@ module _ (edge : ℕ → ℕ → Bool) (left : ℕ → Bool) where
     pub free : Free numbers edge left t s
     pub trying : Trying waits t
 
-  pub search_start : (waits : List ℕ) → Kept waits → Searched edge left waits → Trying waits 0
-  search_start waits kept searched = record { kept = kept; searched = searched; in_vain = λ t l h. absurd (omega (arith, l)) }
-
   module _ (waits : List ℕ) (k : ℕ) (trying : Trying waits k) where
     -- t is the next one left: none between k and t needs to be tried, and below the one kept for t none is to be looked for
     pub look_start : (t s : ℕ) → FirstFrom left k numbers t → FirstFrom (without left t) (get_or waits t 0) numbers s → Looking waits t s
