@@ -5,7 +5,7 @@ use Rattle.histories.specs.Source.{Source}
 use Rattle.rules.specs.Answer.{Answer, gives, refused}
 use Rattle.refusals.specs.declared.refusal.Checked.{Checked}
 use Rattle.refusals.proofs.Determined.{same_refusal, same_checked}
-use Rattle.checked_log.specs.Numbers.{source_says, found_says}
+use Rattle.checked_log.specs.Numbers.{source_says, found_says, told_source}
 use Rattle.checked_log.specs.Promises.{ChecksLength, ChecksContent, ChecksLog, FindsSource, TellsSource}
 use Rattle.checked_log.specs.declared.source.Found.{Found}
 use Rattle.checked_log.specs.declared.source.Found.TheVariants.{At, None as NoneFound}
@@ -17,7 +17,8 @@ abbrev two : (t place : ℕ) → Told
 two t place = record { transaction = t; place = place }
 
 pub same_source : (a b : SourceAnswer) → source_says a ≡ source_says b → a ≡ b
-same_source (Of s) (Of t) e = ap Of (ap₂ two (cc) (cc))
+same_source (Of s) (Of t) e =
+    let q : told_source s ≡ told_source t = cc in ap Of (ap₂ two (ap (λ (x : Source). x.transaction) q) (ap (λ (x : Source). x.place) q))
 same_source (Of s) None e = cc
 same_source (Of s) (SourceRefused r) e = cc
 same_source None (Of t) e = cc

@@ -22,10 +22,10 @@ unfolding among
 among_cons x xs t = refl
 
 pub among_first : (x : ℕ) (xs : List ℕ) → among (x ∷ xs) x ≡ true
-among_first x xs = among_cons x xs x ∙ (or_parts (eqb x x) (among xs x) (eq-eqb x x refl)).0
+among_first x xs = among_cons x xs x ∙ or_left (eqb x x) (among xs x) (eq-eqb x x refl)
 
 pub among_later : (x : ℕ) (xs : List ℕ) (t : ℕ) → among xs t ≡ true → among (x ∷ xs) t ≡ true
-among_later x xs t h = among_cons x xs t ∙ (or_parts (eqb x t) (among xs t) h).1
+among_later x xs t h = among_cons x xs t ∙ or_right (eqb x t) (among xs t) h
 
 pub among_cases : (x : ℕ) (xs : List ℕ) (t : ℕ) → among (x ∷ xs) t ≡ true → (x ≡ t) ⊎ (among xs t ≡ true)
 among_cases x xs t h =

@@ -2,15 +2,6 @@
 use Rattle.std.proofs.Common.{ℕ, arith, ◌≡◌, refl, sym, ap, List, length}
 use Rattle.lines.specs.Rule.{LineOrCycle, line, cycle, members_of, length_of}
 
--- how many members, and which of the two it is
-abbrev pub count_of : LineOrCycle ℕ → ℕ
-count_of (line n) = n
-count_of (cycle n) = n
-
--- a line is no cycle
-pub line_not_cycle : (m n : ℕ) → line m ≡ cycle n → ⊥
-line_not_cycle m n e = cc
-
 -- what has the length of a line is one, and so for a cycle
 pub record IsLine (n : ℕ) (o : LineOrCycle (List ℕ)) : Type 0 where
   pub is_one : o ≡ line (members_of o)

@@ -90,7 +90,7 @@ module _ (edge : ℕ → ℕ → Bool) (left : ℕ → Bool) where
             says = sym is_next;
             kept = looking.trying.kept;
             searched = looking.trying.searched;
-            blocked = λ e. absurd (cc);
+            blocked = λ e. absurd (cc (sym is_next ∙ e));
           }
         where
           free : Free numbers edge left t numbers
