@@ -5,6 +5,11 @@ use Rattle.std.proofs.Common.{List, [], ◌∷◌, ◌++◌, eqb, length, take, 
 use Rattle.std.proofs.Math.Decide.{ℕ_discrete}
 use Rattle.std.proofs.Math.Bool.{or_assoc}
 use Rattle.std.proofs.Math.Seq.{sets, get_or-append_seam}
+use Rattle.std.proofs.Common.{cond, one-add}
+use Rattle.std.proofs.lemmas.Bool.{eqb-false}
+use Rattle.std.specs.List.{position_or_len}
+use Rattle.std.proofs.lemmas.List.Recursion.{is_position_or_len, or_at}
+use Rattle.std.proofs.lemmas.List.Sums.{position_or_len_is, fails_before_first}
 use Rattle.std.proofs.lemmas.Bool.{false_from_ne_true, or_cases, or_left, or_right, or_parts, or_from}
 use Rattle.sets.specs.Search.{count_below, without}
 use borrow.Author.Clash.{clash}
@@ -140,28 +145,26 @@ place_entry s xs h =
     ∙ ap (λ (ys : List ℕ). get_or ys (length u.before) 0) u.whole
     ∙ get_or-append_seam u.before s u.after 0
 
+-- the place is the first at which a number passes the test of being s
+place_first : (s : ℕ) (xs : List ℕ) → place_of s xs ≡ position_or_len (λ x. eqb x s) xs
+unfolding place_of
+place_first s = is_position_or_len (place_of s) (λ x. eqb x s) refl (λ x xs. ap (cond (eqb x s) 0) (sym (one-add (place_of s xs))))
+
 -- a place where s stands, and no s before it
 pub place_is : (s : ℕ) (xs : List ℕ) (k : ℕ) → k < length xs → get_or xs k 0 ≡ s → ((j : ℕ) → j < k → get_or xs j 0 ≡ s → ⊥) → place_of s xs ≡ k
-place_is s [] k l e h = absurd (omega arith)
-place_is s (x ∷ xs) zero l e h = place_same x xs s e
-place_is s (x ∷ xs) (suc k) l e h =
-    place_other x xs s (h 0 (omega arith)) ∙ ap suc (place_is s xs k (omega (arith, l)) e (λ j m. h (suc j) (omega (arith, m))))
+place_is s xs k l e h =
+    place_first s xs
+    ∙ position_or_len_is (λ x. eqb x s) xs k 0 (omega arith) (λ j m. ne_eqb (get_or xs j 0) s (h j m)) (λ m. eq-eqb (get_or xs k 0) s e)
 
 -- no s stands before it
 pub place_before : (s : ℕ) (xs : List ℕ) (j : ℕ) → j < place_of s xs → get_or xs j 0 ≡ s → ⊥
-place_before s [] j l e = omega (arith, subst (λ (k : ℕ). j < k) (place_nil s) l)
-place_before s (x ∷ xs) j l e = go (ℕ_discrete x s) j l e (λ i. place_before s xs i)
-  where
-    go : Dec (x ≡ s) → (j : ℕ) → j < place_of s (x ∷ xs) → get_or (x ∷ xs) j 0 ≡ s → ((i : ℕ) → i < place_of s xs → get_or xs i 0 ≡ s → ⊥) → ⊥
-    go (yes q) j l e ih = omega (arith, subst (λ (k : ℕ). j < k) (place_same x xs s q) l)
-    go (no q) zero l e ih = q e
-    go (no q) (suc i) l e ih = ih i (omega (arith, subst (λ (k : ℕ). suc i < k) (place_other x xs s q) l)) e
+place_before s xs j l e = eqb-false (get_or xs j 0) s (fails_before_first (λ x. eqb x s) xs j 0 (omega (arith, l, place_first s xs))) e
 
 -- an entry is among the list
 pub among_entry : (xs : List ℕ) (k : ℕ) → k < length xs → among xs (get_or xs k 0) ≡ true
-among_entry [] k l = absurd (omega arith)
-among_entry (x ∷ xs) zero l = among_first x xs
-among_entry (x ∷ xs) (suc k) l = among_later x xs (get_or xs k 0) (among_entry xs k (omega (arith, l)))
+among_entry xs k l =
+    let t = get_or xs k 0 in
+    or_at (λ ys. among ys t) (λ x. eqb x t) (among_nil t) (λ x ys. among_cons x ys t) xs k 0 l (eq-eqb t t refl)
 
 -- numbers of a set, none twice, are no more than the set has below n
 pub pigeonhole : (n : ℕ) (p : ℕ → Bool) (xs : List ℕ) → NoneTwice xs → ((t : ℕ) → among xs t ≡ true → (t < n) × (p t ≡ true))
