@@ -6,6 +6,7 @@ use Rattle.std.proofs.Common.{length-set, length-append, get_or-set_same, get_or
 use Rattle.std.proofs.Math.Decide.{ℕ_discrete, dec_lt}
 use Rattle.std.proofs.Math.ListN.{length-replicate, get_or-eq_default, get_or-append, get_or-replicate}
 use Rattle.std.proofs.Math.Seq.{get_or-append_seam}
+use Rattle.std.proofs.lemmas.Bool.Decides.{nat_tests}
 use Rattle.std.proofs.lemmas.Nat.{or_shifted}
 use Rattle.std.proofs.Math.Bool.{and-true, and-false, or-false}
 use Rattle.std.proofs.lemmas.Bool.{cases_Bool, false_from_ne_true}
@@ -54,6 +55,10 @@ holds_none n e =
       said = λ i j. ap (λ (x : ℕ). has x j) (empty_entry n i) ∙ has_zero j ∙ sym (e i j);
     }
 
+-- one number more under a bound
+joined : (x y : Bool) (n j : ℕ) → (n ≡ j → x ≡ y) → ((eqb n j && x) || (ltb j n && y)) ≡ (ltb j (suc n) && y)
+joined x y n j q = grind (arith, nat_tests)
+
 -- the set of a test
 module _ (p : ℕ → Bool) where
   set_low : (n : ℕ) → set_of n p < 2 ^ n
@@ -79,15 +84,8 @@ module _ (p : ℕ → Bool) where
   pub has_set_of : (n j : ℕ) → has (set_of n p) j ≡ (ltb j n && p j)
   unfolding set_of
   has_set_of zero j = rw (le-ltb j 0 (omega arith)) (has_zero j)
-  has_set_of (suc n) j = set_more n j ∙ ap (λ (b : Bool). (eqb n j && p n) || b) (has_set_of n j) ∙ go (ℕ_discrete n j)
-    where
-      go : Dec (n ≡ j) → ((eqb n j && p n) || (ltb j n && p j)) ≡ (ltb j (suc n) && p j)
-      go (yes q) = rw (← q, eq-eqb n n refl, le-ltb n n (omega arith), lt-ltb n (suc n) (omega arith), or-false (p n)) refl
-      go (no q) = rw (ne_eqb n j q) (ap (λ (b : Bool). b && p j) (more (dec_lt j n)))
-        where
-          more : Dec (j < n) → ltb j n ≡ ltb j (suc n)
-          more (yes l) = lt-ltb j n l ∙ sym (lt-ltb j (suc n) (omega arith))
-          more (no l) = le-ltb j n (omega arith) ∙ sym (le-ltb j (suc n) (omega arith))
+  has_set_of (suc n) j =
+      set_more n j ∙ ap (λ (b : Bool). (eqb n j && p n) || b) (has_set_of n j) ∙ joined (p n) (p j) n j (λ q. ap p q)
 
 -- a set of everything that passes the test, where nothing from n on does; and it is the only one
 pub has_all : (n : ℕ) (p : ℕ → Bool) → ((j : ℕ) → p j ≡ true → j < n) → (j : ℕ) → has (set_of n p) j ≡ p j
