@@ -15,12 +15,8 @@ use Rattle.histories.proofs.Reasons.{conflict_found, write_order_found, read_bef
 
 -- the lowest of three reasons is 0 exactly where none applies
 lowest_zero : (a b c : Bool) → (lowest_reason a b c ≡ 0) ↔ ((a || b || c) ≡ false)
-lowest_zero true true true = (λ h. absurd (omega arith), λ h. absurd (true≢false h))
-lowest_zero true true false = (λ h. absurd (omega arith), λ h. absurd (true≢false h))
-lowest_zero true false true = (λ h. absurd (omega arith), λ h. absurd (true≢false h))
-lowest_zero true false false = (λ h. absurd (omega arith), λ h. absurd (true≢false h))
-lowest_zero false true true = (λ h. absurd (omega arith), λ h. absurd (true≢false h))
-lowest_zero false true false = (λ h. absurd (omega arith), λ h. absurd (true≢false h))
+lowest_zero true b c = (λ h. absurd (omega arith), λ h. absurd (true≢false h))
+lowest_zero false true c = (λ h. absurd (omega arith), λ h. absurd (true≢false h))
 lowest_zero false false true = (λ h. absurd (omega arith), λ h. absurd (true≢false h))
 lowest_zero false false false = (λ h. refl, λ h. refl)
 

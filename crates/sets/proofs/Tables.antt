@@ -55,7 +55,10 @@ holds_none n e =
       said = λ i j. ap (λ (x : ℕ). has x j) (empty_entry n i) ∙ has_zero j ∙ sym (e i j);
     }
 
--- one number more under a bound
+-- one number more under a bound, at n + 1 and at suc n
+one_more : (x y : Bool) (n j : ℕ) → (n ≡ j → x ≡ y) → (ltb j (n + 1) && y) ≡ ((ltb j n && y) || (eqb n j && x))
+one_more x y n j q = grind (arith, nat_tests)
+
 joined : (x y : Bool) (n j : ℕ) → (n ≡ j → x ≡ y) → ((eqb n j && x) || (ltb j n && y)) ≡ (ltb j (suc n) && y)
 joined x y n j q = grind (arith, nat_tests)
 
@@ -132,12 +135,7 @@ module _ (wide : ℕ) (r : ℕ → ℕ → Bool) where
       blank j = w.said i j ∙ ap (λ (b : Bool). b && r i j) (le-ltb i i (omega arith))
 
       more : (a j : ℕ) → (ltb a (i + 1) && r a j) ≡ ((ltb a i && r a j) || (eqb i a && r i j))
-      more a j = go (ℕ_discrete i a) (dec_lt a i)
-        where
-          go : Dec (i ≡ a) → Dec (a < i) → (ltb a (i + 1) && r a j) ≡ ((ltb a i && r a j) || (eqb i a && r i j))
-          go (yes q) d = rw (← q, eq-eqb i i refl, le-ltb i i (omega arith), lt-ltb i (i + 1) (omega arith)) refl
-          go (no q) (yes m) = rw (ne_eqb i a q, lt-ltb a i m, lt-ltb a (i + 1) (omega arith), or-false (r a j)) refl
-          go (no q) (no m) = rw (ne_eqb i a q, le-ltb a i (omega arith), le-ltb a (i + 1) (omega arith)) refl
+      more a j = one_more (r i j) (r a j) i a (λ q. ap (λ (x : ℕ). r x j) q)
 
 -- the table of a relation among the numbers below n; and it is the only one
 pub holds_table : (n : ℕ) (r : ℕ → ℕ → Bool) → ((i j : ℕ) → r i j ≡ true → (i < n) × (j < n)) → Holds n r (table_of n (λ i. set_of n (r i)))
