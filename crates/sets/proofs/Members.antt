@@ -5,6 +5,7 @@ use Rattle.std.proofs.Common.{◌||◌, true≢false, eqb, bit_or, bit_and, bit_
 use Rattle.std.proofs.lemmas.Nat.Bits.{bit_at-zero, bit_at_and, bit_at_or, bit_at_xor, bit_at-pow_same, bit_at-pow_other, bit_at-lt, same_from_bits}
 use Rattle.std.proofs.lemmas.Nat.Bits.{bit_at_above}
 use Rattle.std.proofs.Math.Decide.{ℕ_discrete, dec_lt}
+use Rattle.std.proofs.lemmas.Bool.Decides.{nat_tests}
 use Rattle.std.specs.Int.{bit_at}
 use borrow.Author.Clash.{clash}
 use Rattle.sets.specs.Bits.{has}
@@ -59,10 +60,7 @@ has_with x i j = has_or x (2 ^ i) j ∙ ap (λ (b : Bool). has x j || b) (has_po
 -- the set with one number taken out: added first, it is in both
 taken_out : (a b : Bool) → differs (a || b) b ≡ (a && not b)
 unfolding differs
-taken_out true true = refl
-taken_out true false = refl
-taken_out false true = refl
-taken_out false false = refl
+taken_out a b = grind (arith, nat_tests)
 
 pub has_without : (x i j : ℕ) → has (bit_xor (bit_or x (2 ^ i)) (2 ^ i)) j ≡ (has x j && not (eqb i j))
 has_without x i j =

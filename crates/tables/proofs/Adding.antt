@@ -1,5 +1,6 @@
 -- What a pass from the end keeps, from record k + 1 down to record k, in the words of what the steps promise.
 use Rattle.std.proofs.Common.{ℕ, ◌+◌, ◌-◌, ◌<◌, arith, ◌≡◌, refl, sym, ◌∙◌, ap, subst, List, Bool, true, false, ◌&&◌, ◌||◌, eqb, replicate}
+use Rattle.std.proofs.lemmas.Bool.Decides.{nat_tests}
 use Rattle.std.proofs.Math.Bool.{or-false}
 use Rattle.sets.specs.Bits.{has, in_row, Holds}
 use Rattle.sets.proofs.Tables.{holds_same, holds_none}
@@ -21,12 +22,7 @@ empty_table n = holds_none n (λ i j. refl)
 
 -- added for one reason and then for another
 added_twice : (old own a b here : Bool) → ((old || (own && (a && here))) || (own && (b && here))) ≡ (old || (own && ((a || b) && here)))
-added_twice true own a b here = refl
-added_twice false false a b here = refl
-added_twice false true true true true = refl
-added_twice false true true true false = refl
-added_twice false true true false here = or-false here
-added_twice false true false b here = refl
+added_twice old own a b here = grind (arith, nat_tests)
 
 module _ (log : List ℕ) where
   -- the sets of copies or items
