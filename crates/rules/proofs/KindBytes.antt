@@ -1,11 +1,5 @@
 -- A record's kind, from its kind byte.
-use Prim.Native.Nat.{ℕ}
-use native.Mathlib.Omega.{arith}
-use mathlib.Core.Path.{◌≡◌, refl, sym, ◌∙◌}
-use mathlib.Core.List.{List}
-use mathlib.Core.Bool.{Bool, true, false}
-use lib.Dec.{eqb}
-use borrow.Author.Tests.{eq-eqb, ne_eqb, eqb-true}
+use Rattle.std.proofs.Common.{ℕ, arith, ◌≡◌, refl, sym, ◌∙◌, List, Bool, true, false, eqb, eq-eqb, ne_eqb, eqb-true}
 use Rattle.rules.specs.Record.{kind, is_read, is_write, is_commit, read_kind, write_kind, commit_kind}
 
 -- a test of the kind byte, by a byte that was read and compared
