@@ -11,6 +11,6 @@ along_more lowest xs reasons n k value l w e =
     record {
       whole = length-set reasons k value ∙ w.whole;
       said = below_more (λ j. entry (set reasons k value) j ≡ lowest (entry xs j) (entry xs (round_to n j))) k
-        (λ j m. get_or-set_other reasons k j value 0 (ne_of_lt m) ∙ w.said j m)
-        (get_or-set_same reasons k value 0 (rw w.whole l) ∙ e);
+          (λ j m. get_or-set_other reasons k j value 0 (ne_of_lt m) ∙ w.said j m)
+          (get_or-set_same reasons k value 0 (rw w.whole l) ∙ e);
     }
