@@ -1,15 +1,10 @@
 -- Laws of answer records: how they are written one by one, that they are known by what stands at each place, and that the records of an answer
 -- have room in the buffer and leave what is behind them.
-use Prim.Native.Nat.{ℕ, zero, suc, ◌+◌, ◌*◌, ◌<◌, ◌≤◌}
-use native.Mathlib.Omega.{arith}
-use native.Mathlib.Decide.{ℕ_discrete, dec_lt}
-use native.Mathlib.Nat.{add-zero, zero-add}
-use native.Mathlib.Numerals.{add-one}
-use mathlib.Core.Path.{◌≡◌, refl, sym, ◌∙◌, ap, ap₂, subst}
-use mathlib.Core.List.{List, [], ◌∷◌, ◌++◌}
-use lib.ListN.{length, drop, length-append, get_or-append}
-use lib.Seq.{sets, sets-eq, get_or-append-add}
-use borrow.Author.Tests.{lt-ltb, le-ltb}
+use Rattle.std.proofs.Common.{ℕ, zero, suc, ◌+◌, ◌*◌, ◌<◌, ◌≤◌, arith, add-zero, zero-add, add-one, ◌≡◌, refl, sym, ◌∙◌, ap, ap₂, subst, List, []}
+use Rattle.std.proofs.Common.{◌∷◌, ◌++◌, length, drop, length-append, get_or-append-add, lt-ltb, le-ltb}
+use Rattle.std.proofs.Math.Decide.{ℕ_discrete, dec_lt}
+use Rattle.std.proofs.Math.ListN.{get_or-append}
+use Rattle.std.proofs.Math.Seq.{sets, sets-eq}
 use Rattle.histories.specs.Reasons.{edge, reason}
 use Rattle.rules.specs.Answer.{Answer, gives, refused}
 use Rattle.rules.specs.Record.{transactions}

@@ -1,12 +1,7 @@
 -- The three demands hold of every log and every buffer: of whatever is said and left in the buffer as the verdict promises.
-use Prim.Native.Nat.{ℕ, ◌+◌, ◌*◌, ◌<◌, ◌≤◌}
-use native.Mathlib.Omega.{arith}
-use mathlib.Core.Path.{◌≡◌, refl, sym, ◌∙◌, ap, ap₂, subst, subst₂}
-use mathlib.Core.Bool.{true}
-use mathlib.Core.List.{List, ◌++◌}
-use mathlib.Core.Logic.{◌↔◌}
-use lib.ListN.{length, drop, get_or-append}
-use lib.Seq.{sets}
+use Rattle.std.proofs.Common.{ℕ, ◌+◌, ◌*◌, ◌<◌, ◌≤◌, arith, ◌≡◌, refl, sym, ◌∙◌, ap, ap₂, subst, subst₂, true, List, ◌++◌, ◌↔◌, length, drop}
+use Rattle.std.proofs.Math.ListN.{get_or-append}
+use Rattle.std.proofs.Math.Seq.{sets}
 use Rattle.sets.specs.Bits.{has, in_row}
 use Rattle.sets.specs.Paths.{Acyclic}
 use Rattle.histories.specs.History.{History}

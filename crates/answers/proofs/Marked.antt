@@ -1,6 +1,6 @@
 -- P1 to P14, computed from the definitions, which are therefore all open here.
-use mathlib.Core.Path.{◌≡◌, refl}
-use mathlib.Core.Option.{Option-elim}
+use Rattle.std.proofs.Common.{◌≡◌, refl}
+use Rattle.std.proofs.Math.Option.{Option-elim}
 use Rattle.sets.specs.Search.{some_below, some_from, last_below, first_below, without}
 use Rattle.histories.specs.History.{is_by, uses, uses_copy, writes_copy, writes_item, on_same_copy, conflicting}
 use Rattle.histories.specs.Earlier.{some_before, some_of, some_after, first_of, committed, wrote_copy, wrote_item, writes}

@@ -1,11 +1,6 @@
 -- The order of the verdict's refusals, case by case, and what follows from each. The only file that opens `verdict_check` and
 -- `verdict_answer`.
-use Prim.Native.Nat.{ℕ, ◌<◌, ◌≤◌}
-use native.Mathlib.Omega.{arith}
-use mathlib.Core.Path.{◌≡◌, refl, ◌∙◌}
-use mathlib.Core.List.{List, ◌∷◌}
-use mathlib.Core.Bool.{true, false}
-use borrow.Author.Tests.{lt-ltb, le-ltb, ltb-false}
+use Rattle.std.proofs.Common.{ℕ, ◌<◌, ◌≤◌, arith, ◌≡◌, refl, ◌∙◌, List, ◌∷◌, true, false, lt-ltb, le-ltb, ltb-false}
 use Rattle.rules.specs.Answer.{Answer, gives, refused, passed, ◌then◌}
 use Rattle.rules.specs.Rows.{row, answer_of, NoneOf}
 use Rattle.rules.specs.Refusals.{length_rows, content_rows, log_rows, length_answer, content_answer}

@@ -1,7 +1,5 @@
 -- The rows of a record in two parts: 4 and 5 come first, and then 6 to 8.
-use Prim.Native.Nat.{ℕ}
-use mathlib.Core.Path.{◌≡◌, sym, ◌∙◌}
-use mathlib.Core.List.{List}
+use Rattle.std.proofs.Common.{ℕ, ◌≡◌, sym, ◌∙◌, List}
 use Rattle.rules.specs.Answer.{passed, refused}
 use Rattle.rules.specs.Form.{form_rows}
 use Rattle.rules.specs.LogHistory.{history_of}

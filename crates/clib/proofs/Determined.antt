@@ -1,10 +1,6 @@
 -- The promises of the C face determine the numbers and every byte of the buffers lent, and "none" is no source.
-use Prim.Native.Nat.{ℕ}
-use native.Mathlib.Omega.{arith}
-use mathlib.Core.Path.{◌≡◌, refl, sym, ◌∙◌}
-use mathlib.Core.List.{List}
-use mathlib.Core.Logic.{◌⊎◌, inl, inr}
-use mathlib.Core.Option.{Option, none, some}
+use Rattle.std.proofs.Common.{ℕ, arith, ◌≡◌, refl, sym, ◌∙◌, List, ◌⊎◌, inl, inr}
+use Rattle.std.proofs.Math.Option.{Option, none, some}
 use Rattle.histories.specs.Source.{Source}
 use Rattle.rules.specs.Answer.{Answer, gives, refused}
 use Rattle.rules.specs.Questions.{source_answer}

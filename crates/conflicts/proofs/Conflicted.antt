@@ -1,6 +1,5 @@
 -- The table of reason 1, once a whole log is read, is that of the definition.
-use Prim.Native.Nat.{ℕ}
-use mathlib.Core.List.{List}
+use Rattle.std.proofs.Common.{ℕ, List}
 use Rattle.sets.specs.Bits.{Holds}
 use Rattle.histories.specs.Reasons.{gives_conflict, conflict}
 use Rattle.rules.specs.LogHistory.{history_of}

@@ -13,7 +13,8 @@ use lib.ListN.{length, take, drop, get_or, set, length-set, length-drop, drop_of
 use lib.Seq.{drop-cons, drop-set-lt, get_or-set_same}
 use Rattle.std.proofs.lemmas.Slice.{between_to_end}
 use Rattle.sets.specs.Bits.{has}
-use Rattle.sets.proofs.Truth.{clash, or_swap}
+use Rattle.std.proofs.Math.Bool.{or_comm}
+use borrow.Author.Clash.{clash}
 use Rattle.sets.proofs.Members.{has_zero}
 use Rattle.sets.proofs.Counts.{count_low}
 use Rattle.lines.specs.Rule.{among, place_of, walk, up_to}
@@ -93,7 +94,7 @@ module _ {n : ℕ} {waits : List ℕ} {first : ℕ} {path : List ℕ} {at seen a
           seen_are = λ t.
               h t
               ∙ ap (λ (b : Bool). b || eqb again t) (w.seen_are t)
-              ∙ or_swap (among (drop at path) t) (eqb again t)
+              ∙ or_comm (among (drop at path) t) (eqb again t)
               ∙ sym (ap (λ (xs : List ℕ). among xs t) longer ∙ among_cons again (drop at path) t);
           again_low = l;
           same_walk =

@@ -1,7 +1,5 @@
 -- Tables of edges, one for each reason, of which the whole say what the definitions say of two transactions.
-use Prim.Native.Nat.{ℕ}
-use mathlib.Core.Path.{◌≡◌}
-use mathlib.Core.List.{List}
+use Rattle.std.proofs.Common.{ℕ, ◌≡◌, List}
 use Rattle.sets.specs.Bits.{Holds}
 use Rattle.sets.proofs.Tables.{holds_same}
 use Rattle.histories.specs.Reasons.{edge, reason}

@@ -1,12 +1,7 @@
 -- The definitions by examples, each computed from them alone: small histories, and what document 01 says of them where a wrong definition
 -- would say something else. Each proof opens all that a wrong one may use, so that it computes.
-use Prim.Native.Nat.{ℕ, ◌+◌, ◌*◌}
-use mathlib.Core.Path.{◌≡◌, refl}
-use mathlib.Core.Bool.{Bool, true, false, not, ◌||◌}
-use mathlib.Core.List.{List, [], ◌∷◌}
-use mathlib.Core.Option.{Option, none, some}
-use lib.ListN.{length, get_or}
-use lib.Dec.{eqb}
+use Rattle.std.proofs.Common.{ℕ, ◌+◌, ◌*◌, ◌≡◌, refl, Bool, true, false, not, ◌||◌, List, [], ◌∷◌, length, get_or, eqb}
+use Rattle.std.proofs.Math.Option.{Option, none, some}
 use Rattle.sets.specs.Search.{some_below, some_from, first_below, last_below}
 use Rattle.histories.specs.History.{History, is_by, uses, uses_copy, writes_copy, writes_item, on_same_copy, conflicting}
 use Rattle.histories.specs.Earlier.{some_before, some_of, some_after, first_of, committed, wrote_copy, wrote_item, writes}

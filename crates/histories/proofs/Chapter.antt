@@ -1,14 +1,11 @@
 -- For every sound history: the chapter's first condition, its second where the graph has no cycle, and its Lemma 8.1. Of two writers one
 -- comes first, which is an edge; and so is one from a reader of the first to the second. A path the other way would make a cycle.
-use Prim.Native.Nat.{ℕ, ◌<◌}
-use native.Mathlib.Omega.{arith}
-use native.Mathlib.Decide.{ℕ_discrete, dec_lt}
-use mathlib.Core.Path.{◌≡◌, refl, sym, ◌∙◌, ap, subst}
-use mathlib.Core.Bool.{true}
-use mathlib.Core.Option.{some}
-use mathlib.Core.Logic.{inl, inr, ⊎_elim}
+use Rattle.std.proofs.Common.{ℕ, ◌<◌, arith, ◌≡◌, refl, sym, ◌∙◌, ap, subst, true, inl, inr, ⊎_elim}
+use Rattle.std.proofs.Math.Decide.{ℕ_discrete, dec_lt}
+use Rattle.std.proofs.Math.Option.{some}
+use Rattle.std.proofs.lemmas.Bool.{and_parts}
 use Rattle.sets.specs.Paths.{by_edge, edge_then, Acyclic}
-use Rattle.sets.proofs.Truth.{clash, and_left, and_right}
+use borrow.Author.Clash.{clash}
 use Rattle.histories.specs.History.{History, Counts, conflicting}
 use Rattle.histories.specs.Earlier.{wrote_item, Writer}
 use Rattle.histories.specs.Source.{shows, source_record, writer_behind}
@@ -59,11 +56,11 @@ module _ (h : History) where
   -- an edge of SG joins two that take part, by a conflict; and the graph has every one
   pub SG_two : (i j : ℕ) → serialization_edge h i j ≡ true → Two h i j
   unfolding serialization_edge
-  SG_two i j b = two_found h i j (and_left (two_of_them h i j) (conflict h i j) b)
+  SG_two i j b = two_found h i j (and_parts (two_of_them h i j) (conflict h i j) b).0
 
   pub SG_conflict : (i j : ℕ) → serialization_edge h i j ≡ true → conflict h i j ≡ true
   unfolding serialization_edge
-  SG_conflict i j b = and_right (two_of_them h i j) (conflict h i j) b
+  SG_conflict i j b = (and_parts (two_of_them h i j) (conflict h i j) b).1
 
   pub conflict_in_SG : (e f : ℕ) → e < f → Counts h e → Counts h f → (h.transaction e ≡ h.transaction f → ⊥) → conflicting h e f ≡ true
       → serialization_edge h (h.transaction e) (h.transaction f) ≡ true

@@ -1,14 +1,10 @@
 -- Which later records conflict with a record: with a read the writes of its copy, with a write every use of it, with a record that does
 -- neither none.
-use Prim.Native.Nat.{ℕ, ◌+◌, ◌<◌}
-use native.Mathlib.Omega.{arith}
-use mathlib.Core.Path.{◌≡◌, refl, sym, ◌∙◌}
-use mathlib.Core.Bool.{Bool, true, false, ◌&&◌, ◌||◌}
-use mathlib.Core.Logic.{◌⊎◌, inl, inr}
-use lib.Dec.{eqb}
-use borrow.Author.Tests.{eq-eqb}
+use Rattle.std.proofs.Common.{ℕ, ◌+◌, ◌<◌, arith, ◌≡◌, refl, sym, ◌∙◌, Bool, true, false, ◌&&◌, ◌||◌, ◌⊎◌, inl, inr, eqb, eq-eqb}
+use Rattle.std.proofs.Math.Bool.{and-true, and-false, or-false}
+use Rattle.std.proofs.lemmas.Bool.{cases_Bool, or_left, or_right}
 use Rattle.sets.specs.Search.{some_from}
-use Rattle.sets.proofs.Truth.{either, clash, and_always, and_nothing, or_nothing, or_hit_left, or_hit_right}
+use borrow.Author.Clash.{clash}
 use Rattle.histories.specs.History.{History, is_by, uses, uses_copy, writes_copy, on_same_copy, conflicting}
 use Rattle.histories.specs.Earlier.{some_after}
 use Rattle.histories.specs.Reasons.{gives_conflict, conflict}
@@ -16,20 +12,20 @@ use Rattle.histories.proofs.OfTransactions.{of_hit, after_hit, after_found}
 
 -- of the users of a copy those that write it
 users_write : (r w s : Bool) → (((r || w) && s) && w) ≡ (w && s)
-users_write true true s = and_always s
-users_write false true s = and_always s
-users_write true false s = and_nothing s
+users_write true true s = and-true s
+users_write false true s = and-true s
+users_write true false s = and-false s
 users_write false false s = refl
 
 module _ (h : History) (e : ℕ) where
   -- a read and a write use their copy, and nothing else does
   pub read_uses : h.is_read e ≡ true → uses h e ≡ true
   unfolding uses
-  read_uses r = or_hit_left (h.is_read e) (h.is_write e) r
+  read_uses r = or_left (h.is_read e) (h.is_write e) r
 
   pub write_uses : h.is_write e ≡ true → uses h e ≡ true
   unfolding uses
-  write_uses w = or_hit_right (h.is_read e) (h.is_write e) w
+  write_uses w = or_right (h.is_read e) (h.is_write e) w
 
   pub uses_none : h.is_read e ≡ false → h.is_write e ≡ false → uses h e ≡ false
   unfolding uses
@@ -54,7 +50,7 @@ module _ (h : History) (e : ℕ) where
 
   pub conflicts_with_write : h.is_write e ≡ true → (f : ℕ) → conflicting h e f ≡ uses_copy h f (h.copy e)
   unfolding conflicting on_same_copy
-  conflicts_with_write w f = rw (own (write_uses w), w) (and_always (uses_copy h f (h.copy e)))
+  conflicts_with_write w f = rw (own (write_uses w), w) (and-true (uses_copy h f (h.copy e)))
 
   conflicts_with_none : uses h e ≡ false → (f : ℕ) → conflicting h e f ≡ false
   unfolding conflicting on_same_copy uses_copy
@@ -64,15 +60,6 @@ module _ (h : History) (e : ℕ) where
   pub write_then_use : (f : ℕ) → h.is_write e ≡ true → uses h f ≡ true → h.copy f ≡ h.copy e → conflicting h e f ≡ true
   unfolding uses_copy
   write_then_use f w u q = conflicts_with_write w f ∙ rw (u, eq-eqb (h.copy f) (h.copy e) q) refl
-
-  pub use_then_write : (f : ℕ) → uses h e ≡ true → h.is_write f ≡ true → h.copy f ≡ h.copy e → conflicting h e f ≡ true
-  unfolding conflicting on_same_copy uses_copy uses
-  use_then_write f u w q =
-      rw (eq-eqb (h.copy e) (h.copy e) refl, eq-eqb (h.copy f) (h.copy e) q, w)
-      (either_way (h.is_read e) (h.is_write e) (h.is_read f) u)
-    where
-      either_way : (r v s : Bool) → (r || v) ≡ true → ((((r || v) && true) && ((s || true) && true)) && (v || true)) ≡ true
-      either_way r v s t = rw (t, or_hit_right s true refl, or_hit_right v true refl) refl
 
   -- two records in conflict are one for their transactions
   pub conflict_hit : (f : ℕ) → e < f → f < h.size → conflicting h e f ≡ true → conflict h (h.transaction e) (h.transaction f) ≡ true
@@ -89,7 +76,7 @@ module _ (h : History) (e : ℕ) where
 
   none_conflicts : uses h e ≡ false → (j : ℕ) → gives_conflict h e j ≡ false
   unfolding gives_conflict
-  none_conflicts u j = go (either (some_after h e j (conflicting h e)))
+  none_conflicts u j = go (cases_Bool (some_after h e j (conflicting h e)))
     where
       go : (some_after h e j (conflicting h e) ≡ true) ⊎ (some_after h e j (conflicting h e) ≡ false) → some_after h e j (conflicting h e) ≡ false
       go (inl b) = let v = after_found h j (conflicting h e) e b in absurd (clash (conflicting h e v.at) v.passes (conflicts_with_none u v.at))
@@ -100,13 +87,13 @@ module _ (h : History) (e : ℕ) where
       → later_users ≡ some_from (e + 1) h.size (λ f. is_by h f j && uses_copy h f (h.copy e))
       → ((h.is_read e && later_writers) || (h.is_write e && later_users)) ≡ gives_conflict h e j
   unfolding gives_conflict
-  conflicts_by_kind apart j later_writers later_users p q = go (either (h.is_read e)) (either (h.is_write e))
+  conflicts_by_kind apart j later_writers later_users p q = go (cases_Bool (h.is_read e)) (cases_Bool (h.is_write e))
     where
       go : (h.is_read e ≡ true) ⊎ (h.is_read e ≡ false) → (h.is_write e ≡ true) ⊎ (h.is_write e ≡ false)
           → ((h.is_read e && later_writers) || (h.is_write e && later_users)) ≡ gives_conflict h e j
       go (inl r) w =
           rw (r, apart r)
-          (or_nothing later_writers
+          (or-false later_writers
           ∙ p
           ∙ sym (same_after j (conflicting h e) (λ f. writes_copy h f (h.copy e)) (conflicts_with_read r (apart r))))
       go (inr r) (inl w) = rw (r, w) (q ∙ sym (same_after j (conflicting h e) (λ f. uses_copy h f (h.copy e)) (conflicts_with_write w)))

@@ -1,14 +1,11 @@
 -- Edges and reasons: an edge joins two that take part, for one of the three reasons; its reason is the lowest that applies, and 0 exactly
 -- where there is no edge.
-use Prim.Native.Nat.{ℕ, ◌<◌, ◌≤◌}
-use native.Mathlib.Omega.{arith}
-use native.Mathlib.Decide.{dec_lt}
-use mathlib.Core.Path.{◌≡◌, refl, sym, ap, subst}
-use mathlib.Core.Bool.{Bool, true, false, not, ◌&&◌, ◌||◌, cond, true≢false}
-use mathlib.Core.Logic.{◌⊎◌, inl, inr, ⊎_elim, ◌↔◌}
-use lib.Dec.{eqb}
-use borrow.Author.Tests.{ne_eqb, eqb-false, not-true}
-use Rattle.sets.proofs.Truth.{either, clash, and_left, and_right, and_nothing, or_cases, or_hit_left, or_hit_right}
+use Rattle.std.proofs.Common.{ℕ, ◌<◌, ◌≤◌, arith, ◌≡◌, refl, sym, ap, subst, Bool, true, false, not, ◌&&◌, ◌||◌, cond, true≢false, ◌⊎◌, inl, inr}
+use Rattle.std.proofs.Common.{⊎_elim, ◌↔◌, eqb, ne_eqb}
+use Rattle.std.proofs.Math.Decide.{dec_lt}
+use Rattle.std.proofs.lemmas.Bool.{eqb-false, not-true, cases_Bool, and_parts, or_cases, or_left, or_right}
+use Rattle.std.proofs.Math.Bool.{and-false}
+use borrow.Author.Clash.{clash}
 use Rattle.histories.specs.History.{History}
 use Rattle.histories.specs.Earlier.{writes}
 use Rattle.histories.specs.Reasons.{lowest_reason, conflict, write_order, read_before, two_of_them, edge, reason}
@@ -18,12 +15,8 @@ use Rattle.histories.proofs.Reasons.{conflict_found, write_order_found, read_bef
 
 -- the lowest of three reasons is 0 exactly where none applies
 lowest_zero : (a b c : Bool) → (lowest_reason a b c ≡ 0) ↔ ((a || b || c) ≡ false)
-lowest_zero true true true = (λ h. absurd (omega arith), λ h. absurd (true≢false h))
-lowest_zero true true false = (λ h. absurd (omega arith), λ h. absurd (true≢false h))
-lowest_zero true false true = (λ h. absurd (omega arith), λ h. absurd (true≢false h))
-lowest_zero true false false = (λ h. absurd (omega arith), λ h. absurd (true≢false h))
-lowest_zero false true true = (λ h. absurd (omega arith), λ h. absurd (true≢false h))
-lowest_zero false true false = (λ h. absurd (omega arith), λ h. absurd (true≢false h))
+lowest_zero true b c = (λ h. absurd (omega arith), λ h. absurd (true≢false h))
+lowest_zero false true c = (λ h. absurd (omega arith), λ h. absurd (true≢false h))
 lowest_zero false false true = (λ h. absurd (omega arith), λ h. absurd (true≢false h))
 lowest_zero false false false = (λ h. refl, λ h. refl)
 
@@ -37,11 +30,11 @@ module _ (h : History) (i j : ℕ) where
   pub two_found : two_of_them h i j ≡ true → Two
   unfolding two_of_them
   two_found b =
-      let both = and_left (h.takes_part i && h.takes_part j) (not (eqb i j)) b in
+      let both = (and_parts (h.takes_part i && h.takes_part j) (not (eqb i j)) b).0 in
       record {
-        from_part = and_left (h.takes_part i) (h.takes_part j) both;
-        to_part = and_right (h.takes_part i) (h.takes_part j) both;
-        other = eqb-false i j (not-true (eqb i j) (and_right (h.takes_part i && h.takes_part j) (not (eqb i j)) b));
+        from_part = (and_parts (h.takes_part i) (h.takes_part j) both).0;
+        to_part = (and_parts (h.takes_part i) (h.takes_part j) both).1;
+        other = eqb-false i j (not-true (eqb i j) (and_parts (h.takes_part i && h.takes_part j) (not (eqb i j)) b).1);
       }
 
   pub two_hit : Two → two_of_them h i j ≡ true
@@ -54,7 +47,7 @@ module _ (h : History) (i j : ℕ) where
   -- an edge, taken apart and put together
   pub edge_two : edge h i j ≡ true → Two
   unfolding edge
-  edge_two b = two_found (and_left (two_of_them h i j) some_reason b)
+  edge_two b = two_found (and_parts (two_of_them h i j) some_reason b).0
 
   pub edge_reasons : edge h i j ≡ true → (conflict h i j ≡ true) ⊎ ((write_order h i j ≡ true) ⊎ (read_before h i j ≡ true))
   unfolding edge
@@ -63,7 +56,7 @@ module _ (h : History) (i j : ℕ) where
       (λ (w : (conflict h i j || write_order h i j) ≡ true).
       ⊎_elim (λ (v : conflict h i j ≡ true). inl v) (λ (v : write_order h i j ≡ true). inr (inl v)) (or_cases (conflict h i j) (write_order h i j) w))
       (λ (w : read_before h i j ≡ true). inr (inr w))
-      (or_cases (conflict h i j || write_order h i j) (read_before h i j) (and_right (two_of_them h i j) some_reason b))
+      (or_cases (conflict h i j || write_order h i j) (read_before h i j) (and_parts (two_of_them h i j) some_reason b).1)
 
   module _ (two : Two) where
     edge_for : some_reason ≡ true → edge h i j ≡ true
@@ -72,14 +65,14 @@ module _ (h : History) (i j : ℕ) where
 
     pub conflict_edge : conflict h i j ≡ true → edge h i j ≡ true
     conflict_edge b =
-        edge_for (or_hit_left (conflict h i j || write_order h i j) (read_before h i j) (or_hit_left (conflict h i j) (write_order h i j) b))
+        edge_for (or_left (conflict h i j || write_order h i j) (read_before h i j) (or_left (conflict h i j) (write_order h i j) b))
 
     pub write_order_edge : write_order h i j ≡ true → edge h i j ≡ true
     write_order_edge b =
-        edge_for (or_hit_left (conflict h i j || write_order h i j) (read_before h i j) (or_hit_right (conflict h i j) (write_order h i j) b))
+        edge_for (or_left (conflict h i j || write_order h i j) (read_before h i j) (or_right (conflict h i j) (write_order h i j) b))
 
     pub read_before_edge : read_before h i j ≡ true → edge h i j ≡ true
-    read_before_edge b = edge_for (or_hit_right (conflict h i j || write_order h i j) (read_before h i j) b)
+    read_before_edge b = edge_for (or_right (conflict h i j || write_order h i j) (read_before h i j) b)
 
   -- THEOREM: the reason is 0 exactly where there is no edge
   pub no_reason_exactly : (reason h i j ≡ 0) ↔ (edge h i j ≡ false)
@@ -150,15 +143,15 @@ module _ (h : History) (i j : ℕ) where
 
     pub edge_plain : (not (eqb i j) && some_reason) ≡ edge h i j
     unfolding edge
-    edge_plain = go (either some_reason)
+    edge_plain = go (cases_Bool some_reason)
       where
         go : (some_reason ≡ true) ⊎ (some_reason ≡ false) → (not (eqb i j) && some_reason) ≡ (two_of_them h i j && some_reason)
         go (inl b) = ap (λ (a : Bool). a && some_reason) (sym (plain_two b))
-        go (inr b) = rw (b, and_nothing (not (eqb i j)), and_nothing (two_of_them h i j)) refl
+        go (inr b) = rw (b, and-false (not (eqb i j)), and-false (two_of_them h i j)) refl
 
     pub reason_plain : cond (not (eqb i j)) (lowest_reason (conflict h i j) (write_order h i j) (read_before h i j)) 0 ≡ reason h i j
     unfolding reason
-    reason_plain = go (either some_reason)
+    reason_plain = go (cases_Bool some_reason)
       where
         nothing : (b : Bool) → ◌≡◌ {A = ℕ} (cond b 0 0) 0
         nothing true = refl

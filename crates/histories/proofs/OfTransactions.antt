@@ -1,15 +1,12 @@
 -- Records of a transaction that pass a test, before a record, in all, after a record, and the first: found, and shown by one. So what a
 -- transaction has written.
-use Prim.Native.Nat.{ℕ, ◌+◌, ◌<◌}
-use native.Mathlib.Omega.{arith}
-use mathlib.Core.Path.{◌≡◌, refl, sym, ◌∙◌, ap}
-use mathlib.Core.Bool.{Bool, true, false, ◌&&◌, ◌||◌}
-use mathlib.Core.Option.{Option, none, some}
-use lib.Dec.{eqb}
-use borrow.Author.Tests.{eq-eqb, eqb-true}
+use Rattle.std.proofs.Common.{ℕ, ◌+◌, ◌<◌, arith, ◌≡◌, refl, sym, ◌∙◌, ap, Bool, true, false, ◌&&◌, ◌||◌, eqb, eq-eqb, eqb-true}
+use Rattle.std.proofs.Math.Option.{Option, none, some}
+use Rattle.std.proofs.Math.Bool.{and-true, and-false}
+use Rattle.std.proofs.lemmas.Bool.{and_from, and_parts}
 use Rattle.sets.specs.Search.{first_below}
 use Rattle.sets.specs.Bits.{has}
-use Rattle.sets.proofs.Truth.{clash, and_true, and_left, and_right, and_always, and_nothing}
+use borrow.Author.Clash.{clash}
 use Rattle.sets.proofs.Searches.{some_hit, some_found, First, first_none, first_some, first_view, first_found}
 use Rattle.sets.proofs.From.{from_hit, from_found}
 use Rattle.histories.specs.History.{History, is_by, writes_copy, writes_item}
@@ -36,10 +33,10 @@ module _ (h : History) where
     own_added t v old c q w j = w j ∙ ap (λ (b : Bool). has old j || b) (ap (λ (x : ℕ). eqb x j) q ∙ sym (by_is k j) ∙ sym it_counts)
       where
         it_counts : (is_by h k j && counts) ≡ is_by h k j
-        it_counts = ap (λ (b : Bool). is_by h k j && b) c ∙ and_always (is_by h k j)
+        it_counts = ap (λ (b : Bool). is_by h k j && b) c ∙ and-true (is_by h k j)
 
     pub none_added : counts ≡ false → (j : ℕ) → (is_by h k j && counts) ≡ false
-    none_added c j = ap (λ (b : Bool). is_by h k j && b) c ∙ and_nothing (is_by h k j)
+    none_added c j = ap (λ (b : Bool). is_by h k j && b) c ∙ and-false (is_by h k j)
 
   -- a record of t that passes, and stands before record k; or after record e
   pub record OneBefore (k t : ℕ) (p : ℕ → Bool) : Type 0 where
@@ -61,15 +58,15 @@ module _ (h : History) where
 
     its_own : (e : ℕ) → passes_own e ≡ true → h.transaction e ≡ t
     unfolding passes_own
-    its_own e b = by_same e t (and_left (is_by h e t) (p e) b)
+    its_own e b = by_same e t (and_parts (is_by h e t) (p e) b).0
 
     its_pass : (e : ℕ) → passes_own e ≡ true → p e ≡ true
     unfolding passes_own
-    its_pass e b = and_right (is_by h e t) (p e) b
+    its_pass e b = (and_parts (is_by h e t) (p e) b).1
 
     own_passes : (e : ℕ) → h.transaction e ≡ t → p e ≡ true → passes_own e ≡ true
     unfolding passes_own
-    own_passes e o b = and_true (is_by h e t) (p e) (by_hit e t o) b
+    own_passes e o b = and_from (is_by h e t) (p e) (by_hit e t o) b
 
     pub before_found : (k : ℕ) → some_before h k t p ≡ true → OneBefore k t p
     unfolding some_before passes_own
@@ -141,13 +138,13 @@ module _ (h : History) where
   unfolding writes_copy
   writes_copy_found e c b =
       record {
-        is_one = and_left (h.is_write e) (eqb (h.copy e) c) b;
-        of_copy = eqb-true (h.copy e) c (and_right (h.is_write e) (eqb (h.copy e) c) b);
+        is_one = (and_parts (h.is_write e) (eqb (h.copy e) c) b).0;
+        of_copy = eqb-true (h.copy e) c (and_parts (h.is_write e) (eqb (h.copy e) c) b).1;
       }
 
   pub writes_copy_hit : (e c : ℕ) → h.is_write e ≡ true → h.copy e ≡ c → writes_copy h e c ≡ true
   unfolding writes_copy
-  writes_copy_hit e c w q = and_true (h.is_write e) (eqb (h.copy e) c) w (eq-eqb (h.copy e) c q)
+  writes_copy_hit e c w q = and_from (h.is_write e) (eqb (h.copy e) c) w (eq-eqb (h.copy e) c q)
 
   -- what a write writes, and that no other record writes
   module _ (e : ℕ) where
@@ -207,15 +204,15 @@ module _ (h : History) where
         at = e;
         before = w.before;
         own = w.own;
-        is_one = and_left (h.is_write e) (eqb (h.item e) x) w.passes;
-        of_item = eqb-true (h.item e) x (and_right (h.is_write e) (eqb (h.item e) x) w.passes);
+        is_one = (and_parts (h.is_write e) (eqb (h.item e) x) w.passes).0;
+        of_item = eqb-true (h.item e) x (and_parts (h.is_write e) (eqb (h.item e) x) w.passes).1;
       }
 
   pub wrote_item_hit : (t x e k : ℕ) → e < k → h.transaction e ≡ t → h.is_write e ≡ true → h.item e ≡ x → wrote_item h t x k ≡ true
   unfolding wrote_item writes_item
   wrote_item_hit t x e k l o w q =
       before_hit t (λ i. h.is_write i && eqb (h.item i) x) k e l o
-      (and_true (h.is_write e) (eqb (h.item e) x) w (eq-eqb (h.item e) x q))
+      (and_from (h.is_write e) (eqb (h.item e) x) w (eq-eqb (h.item e) x q))
 
   -- who writes an item has a record that does
   pub writes_found : (t x : ℕ) → writes h t x ≡ true → WroteItem t x h.size

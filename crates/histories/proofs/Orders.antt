@@ -1,15 +1,11 @@
 -- The two laws of the write order: of two different writers of an item one comes first, and not the other too. Nothing leans on its being
 -- transitive.
-use Prim.Native.Nat.{ℕ, ◌<◌}
-use native.Mathlib.Omega.{arith}
-use native.Mathlib.Decide.{ℕ_discrete, dec_lt}
-use mathlib.Core.Path.{◌≡◌, refl, sym, ◌∙◌, ap, ap₂, subst}
-use mathlib.Core.Bool.{Bool, true, not, ◌&&◌, true≢false}
-use mathlib.Core.Option.{Option, none, some}
-use mathlib.Core.Logic.{◌⊎◌, inl, inr}
-use lib.Dec.{eqb}
-use borrow.Author.Tests.{ne_eqb, eqb-false, not-true, lt-ltb, ltb-true}
-use Rattle.sets.proofs.Truth.{same_truth, and_true, and_left, and_right}
+use Rattle.std.proofs.Common.{ℕ, ◌<◌, arith, ◌≡◌, refl, sym, ◌∙◌, ap, ap₂, subst, Bool, true, not, ◌&&◌, true≢false, ◌⊎◌, inl, inr, eqb, ne_eqb}
+use Rattle.std.proofs.Common.{lt-ltb, ltb-true}
+use Rattle.std.proofs.Math.Decide.{ℕ_discrete, dec_lt}
+use Rattle.std.proofs.Math.Option.{Option, none, some}
+use Rattle.std.proofs.lemmas.Bool.{eqb-false, not-true, and_from, and_parts}
+use Rattle.sets.proofs.Truth.{same_truth}
 use Rattle.histories.specs.History.{History}
 use Rattle.histories.specs.Earlier.{some_of, some_after, first_of, writes, Writer}
 use Rattle.histories.specs.Order.{earlier, comes_before, writer_after}
@@ -73,8 +69,8 @@ module _ (h : History) where
         ahead b =
             let v = of_found h i (λ d. h.is_commit d && some_after h d j h.is_commit) b in
             let c = v.at in
-            let commits = and_left (h.is_commit c) (some_after h c j h.is_commit) v.passes in
-            let w = after_found h j h.is_commit c (and_right (h.is_commit c) (some_after h c j h.is_commit) v.passes) in
+            let commits = (and_parts (h.is_commit c) (some_after h c j h.is_commit) v.passes).0 in
+            let w = after_found h j h.is_commit c (and_parts (h.is_commit c) (some_after h c j h.is_commit) v.passes).1 in
             let f = first_of_some h i h.is_commit c v.before v.own commits in
             let g = first_of_some h j h.is_commit w.at w.there w.own w.passes in
             firsts c w.at w.after w.there commits w.passes v.own w.own f.first g.first f.is_first g.is_first
@@ -84,7 +80,7 @@ module _ (h : History) where
             let v = first_of_found h i h.is_commit a f in
             let w = first_of_found h j h.is_commit b g in
             of_hit h i (λ d. h.is_commit d && some_after h d j h.is_commit) a v.there v.own
-            (and_true (h.is_commit a) (some_after h a j h.is_commit) v.passes
+            (and_from (h.is_commit a) (some_after h a j h.is_commit) v.passes
             (after_hit h j h.is_commit a b (ltb-true a b e) w.there w.own w.passes))
         back (some a) f none g e = absurd (true≢false (sym e))
         back none f p g e = absurd (true≢false (sym e))
@@ -99,11 +95,11 @@ module _ (h : History) (x s j : ℕ) where
   pub writer_after_found : writer_after h x s j ≡ true → WriterAfter
   unfolding writer_after
   writer_after_found b =
-      let both = and_left (writes h j x && not (eqb j s)) (comes_before h x s j) b in
+      let both = (and_parts (writes h j x && not (eqb j s)) (comes_before h x s j) b).0 in
       record {
-        wrote = and_left (writes h j x) (not (eqb j s)) both;
-        other = eqb-false j s (not-true (eqb j s) (and_right (writes h j x) (not (eqb j s)) both));
-        comes_after = and_right (writes h j x && not (eqb j s)) (comes_before h x s j) b;
+        wrote = (and_parts (writes h j x) (not (eqb j s)) both).0;
+        other = eqb-false j s (not-true (eqb j s) (and_parts (writes h j x) (not (eqb j s)) both).1);
+        comes_after = (and_parts (writes h j x && not (eqb j s)) (comes_before h x s j) b).1;
       }
 
   pub writer_after_hit : WriterAfter → writer_after h x s j ≡ true
@@ -116,11 +112,11 @@ module _ (h : History) (x s j : ℕ) where
     where
       ahead : (writes h j x && comes_before h x s j) ≡ true → writer_after h x s j ≡ true
       ahead b =
-          let c = and_right (writes h j x) (comes_before h x s j) b in
-          writer_after_hit (record { wrote = and_left (writes h j x) (comes_before h x s j) b; other = other c; comes_after = c })
+          let c = (and_parts (writes h j x) (comes_before h x s j) b).1 in
+          writer_after_hit (record { wrote = (and_parts (writes h j x) (comes_before h x s j) b).0; other = other c; comes_after = c })
         where
           other : comes_before h x s j ≡ true → j ≡ s → ⊥
           other c q = let d = subst (λ (t : ℕ). comes_before h x t j ≡ true) (sym q) c in only_one_first h x j j d d
 
       back : writer_after h x s j ≡ true → (writes h j x && comes_before h x s j) ≡ true
-      back b = let v = writer_after_found b in and_true (writes h j x) (comes_before h x s j) v.wrote v.comes_after
+      back b = let v = writer_after_found b in and_from (writes h j x) (comes_before h x s j) v.wrote v.comes_after

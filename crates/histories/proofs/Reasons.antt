@@ -1,10 +1,9 @@
 -- What each reason says, as facts of records and of the write order, there and back; so nothing above opens one of the three.
-use Prim.Native.Nat.{ℕ, ◌<◌}
-use mathlib.Core.Path.{◌≡◌, refl, sym, ◌∙◌}
-use mathlib.Core.Bool.{true, false, ◌&&◌}
-use mathlib.Core.Option.{Option, none, some}
-use mathlib.Core.Logic.{⊎_elim}
-use Rattle.sets.proofs.Truth.{either, clash, and_left, and_right, and_nothing}
+use Rattle.std.proofs.Common.{ℕ, ◌<◌, ◌≡◌, refl, sym, ◌∙◌, true, false, ◌&&◌, ⊎_elim}
+use Rattle.std.proofs.Math.Option.{Option, none, some}
+use Rattle.std.proofs.Math.Bool.{and-false}
+use Rattle.std.proofs.lemmas.Bool.{cases_Bool, and_parts}
+use borrow.Author.Clash.{clash}
 use Rattle.histories.specs.History.{History, conflicting}
 use Rattle.histories.specs.Earlier.{writes}
 use Rattle.histories.specs.Source.{source_record, writer_behind}
@@ -35,7 +34,7 @@ module _ (h : History) (e j : ℕ) where
 
   pub no_source_gives : writer_behind h e ≡ none → gives_read_before h e j ≡ false
   unfolding gives_read_before
-  no_source_gives q = rw q (and_nothing (h.real e))
+  no_source_gives q = rw q (and-false (h.real e))
 
   -- by the record of the source, as a walk back finds it
   pub read_gives : (f : ℕ) → h.real e ≡ true → source_record h e ≡ some f
@@ -53,8 +52,8 @@ module _ (h : History) (e j : ℕ) where
   unfolding gives_write_order
   order_found b =
       record {
-        is_one = and_left (h.is_write e) (writer_after h (h.item e) (h.transaction e) j) b;
-        after = and_right (h.is_write e) (writer_after h (h.item e) (h.transaction e) j) b;
+        is_one = (and_parts (h.is_write e) (writer_after h (h.item e) (h.transaction e) j) b).0;
+        after = (and_parts (h.is_write e) (writer_after h (h.item e) (h.transaction e) j) b).1;
       }
 
   record ReadGiven : Type 0 where
@@ -64,7 +63,7 @@ module _ (h : History) (e j : ℕ) where
     after : writer_after h (h.item e) origin j ≡ true
 
   read_found : gives_read_before h e j ≡ true → ReadGiven
-  read_found b = ⊎_elim is_real (λ (r : h.real e ≡ false). absurd (clash (gives_read_before h e j) b (unreal_gives r))) (either (h.real e))
+  read_found b = ⊎_elim is_real (λ (r : h.real e ≡ false). absurd (clash (gives_read_before h e j) b (unreal_gives r))) (cases_Bool (h.real e))
     where
       is_real : h.real e ≡ true → ReadGiven
       is_real r = go (writer_behind h e) refl

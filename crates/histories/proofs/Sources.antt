@@ -1,13 +1,10 @@
 -- The source of a record: the last write of its copy that the record does not pass over, with none between.
-use Prim.Native.Nat.{ℕ, ◌<◌}
-use native.Mathlib.Omega.{arith}
-use mathlib.Core.Path.{◌≡◌, refl, ◌∙◌, ap, subst}
-use mathlib.Core.Bool.{Bool, true, false, cond}
-use mathlib.Core.Logic.{◌↔◌}
-use mathlib.Core.Option.{Option, none, some, map}
+use Rattle.std.proofs.Common.{ℕ, ◌<◌, ◌≡◌, refl, ◌∙◌, ap, subst, Bool, true, false, cond, ◌↔◌}
+use Rattle.std.proofs.Math.Option.{Option, none, some, map}
+use Rattle.std.proofs.lemmas.Bool.{and_from, and_parts}
 use Rattle.sets.specs.Search.{last_below}
-use Rattle.sets.proofs.Truth.{clash, and_true, and_right}
-use Rattle.sets.proofs.Searches.{Last, last_none, last_some, last_hit, last_miss, last_found, last_view, some_none}
+use borrow.Author.Clash.{clash}
+use Rattle.sets.proofs.Searches.{Last, last_none, last_some, last_hit, last_found, last_view, some_none}
 use Rattle.histories.specs.History.{History, writes_copy}
 use Rattle.histories.specs.Source.{Source, shows, is_written, source_record, write_record, source, writer_behind}
 use Rattle.histories.proofs.OfTransactions.{WritesCopy, writes_copy_found}
@@ -16,11 +13,11 @@ module _ (h : History) (k : ℕ) where
   -- a write that the read k does not pass over
   pub shows_found : (e : ℕ) → shows h k e ≡ true → WritesCopy h e (h.copy k)
   unfolding shows
-  shows_found e b = writes_copy_found h e (h.copy k) (and_right (h.seen e k) (writes_copy h e (h.copy k)) b)
+  shows_found e b = writes_copy_found h e (h.copy k) (and_parts (h.seen e k) (writes_copy h e (h.copy k)) b).1
 
   pub shows_hit : (e : ℕ) → h.seen e k ≡ true → writes_copy h e (h.copy k) ≡ true → shows h k e ≡ true
   unfolding shows
-  shows_hit e s w = and_true (h.seen e k) (writes_copy h e (h.copy k)) s w
+  shows_hit e s w = and_from (h.seen e k) (writes_copy h e (h.copy k)) s w
 
   pub source_other : h.is_read k ≡ false → source_record h k ≡ none
   unfolding source_record
@@ -30,10 +27,6 @@ module _ (h : History) (k : ℕ) where
       → source_record h k ≡ some e
   unfolding source_record
   source_hit r e l f w = rw r (last_hit (shows h k) k e l f w)
-
-  pub source_missing : h.is_read k ≡ true → ((i : ℕ) → i < k → shows h k i ≡ false) → source_record h k ≡ none
-  unfolding source_record
-  source_missing r f = rw r (last_miss (shows h k) k f)
 
   -- what a source record is
   pub record Sourced (e : ℕ) : Type 0 where
@@ -51,7 +44,7 @@ module _ (h : History) (k : ℕ) where
 
       go : (b : Bool) → h.is_read k ≡ b → cond b (last_below k (shows h k)) none ≡ some e → Sourced e
       go true r q = from r (last_found (shows h k) k q)
-      go false r q = let z : ◌≡◌ {A = ℕ} 0 1 = cc in absurd (omega arith)
+      go false r q = cc
 
   -- the source has the two numbers of that record, and the writer behind the read is the first of them
   pub source_of : (e : ℕ) → source_record h k ≡ some e → source h k ≡ some (write_record h e)
@@ -81,7 +74,7 @@ module _ (h : History) (k : ℕ) where
   source_record_of t = go (source_record h k) refl
     where
       go : (o : Option ℕ) → source_record h k ≡ o → map (λ (s : Source). s.transaction) (map (write_record h) o) ≡ some t → SourceAt t
-      go none q b = let z : ◌≡◌ {A = ℕ} 0 1 = cc in absurd (omega arith)
+      go none q b = cc
       go (some e) q b = let same : h.transaction e ≡ t = cc in record { at = e; found = q; own = same }
 
   -- what the two numbers of a source say
@@ -96,7 +89,7 @@ module _ (h : History) (k : ℕ) where
   source_exactly s = (go (source_record h k) refl, back)
     where
       go : (o : Option ℕ) → source_record h k ≡ o → map (write_record h) o ≡ some s → Named s
-      go none q b = let z : ◌≡◌ {A = ℕ} 0 1 = cc in absurd (omega arith)
+      go none q b = cc
       go (some e) q b =
           let same : write_record h e ≡ s = cc in subst Named same (record { placed = sourced e q; own = refl })
 

@@ -1,15 +1,10 @@
 -- Number 9, from the sets of those named and of those that have committed.
-use Prim.Native.Nat.{ℕ, ◌<◌}
-use native.Mathlib.Omega.{arith}
-use mathlib.Core.Path.{◌≡◌, sym, ◌∙◌, ap, ap₂}
-use mathlib.Core.List.{List}
-use mathlib.Core.Bool.{Bool, not, ◌&&◌}
+use Rattle.std.proofs.Common.{ℕ, ◌<◌, arith, ◌≡◌, sym, ◌∙◌, ap, ap₂, List, Bool, not, ◌&&◌, get_or}
+use Rattle.std.proofs.Math.Option.{Option, none, some}
+use Rattle.std.proofs.lemmas.Bool.{and_parts}
 use mathlib.Core.Option
-use mathlib.Core.Option.{Option, none, some}
-use lib.ListN.{get_or}
 use Rattle.sets.specs.Bits.{numbers, has}
 use Rattle.sets.specs.Search.{next_from}
-use Rattle.sets.proofs.Truth.{and_left}
 use Rattle.sets.proofs.From.{NextFrom, next_miss, next_hit, next_view}
 use Rattle.histories.specs.Earlier.{some_before, committed}
 use Rattle.rules.specs.Answer.{refused, passed}
@@ -52,7 +47,7 @@ module _
         go (next_hit m l h f) =
             over_lowest (end_row log) transactions t l (λ u z. sym (never_kept u) ∙ f u (omega arith) z) (sym (never_kept t) ∙ h)
             ∙ ap (λ (o : Option ℕ). refused 9 (Option.get_or o 0))
-            (w.names.first t (sym (w.names.said t) ∙ and_left (has kept.named t) (not (has kept.committed t)) (sym (is_left t) ∙ h)))
+            (w.names.first t (sym (w.names.said t) ∙ (and_parts (has kept.named t) (not (has kept.committed t)) (sym (is_left t) ∙ h)).0))
 
     pub all_commit : none ≡ next_from 0 numbers (has left) → answer_of (end_rows log) ≡ passed
     all_commit e = go (next left 0 none e)

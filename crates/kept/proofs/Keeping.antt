@@ -1,19 +1,15 @@
 -- What the check keeps, from record k to record k + 1: each law takes the sets as the code stores them. A set gains the record's
 -- transaction where the record counts, and stays where it does not.
-use Prim.Native.Nat.{ℕ, ◌+◌, ◌*◌, ◌<◌}
-use native.Mathlib.Omega.{arith}
-use mathlib.Core.Path.{◌≡◌, refl, sym, ◌∙◌, ap, ap₂}
-use mathlib.Core.List.{List}
-use mathlib.Core.Bool.{Bool, true, false, ◌&&◌, ◌||◌}
-use mathlib.Core.Option.{some}
-use lib.Dec.{eqb}
-use lib.ListN.{get_or, set, replicate, length-set, length-replicate}
-use lib.Seq.{get_or-set_same, get_or-set_other}
-use native.Mathlib.Decide.{ℕ_discrete}
-use borrow.Author.Tests.{eq-eqb, ne_eqb, eqb-true}
+use Rattle.std.proofs.Common.{ℕ, ◌+◌, ◌<◌, arith, ◌≡◌, refl, sym, ◌∙◌, ap, ap₂, List, Bool, true, false, ◌&&◌, ◌||◌, eqb, get_or, set, replicate}
+use Rattle.std.proofs.Common.{length-set, get_or-set_same, get_or-set_other, eq-eqb, ne_eqb, ◌*◌, eqb-true}
+use Rattle.std.proofs.Math.Option.{some}
+use Rattle.std.proofs.Math.ListN.{length-replicate}
+use Rattle.std.proofs.Math.Decide.{ℕ_discrete}
+use Rattle.std.proofs.Math.Bool.{and_comm, or-false}
+use Rattle.std.proofs.lemmas.Grind.{get_or_default_zero}
 use Rattle.sets.specs.Search.{some_below, first_below}
 use Rattle.sets.specs.Bits.{has}
-use Rattle.sets.proofs.Truth.{clash, and_swap, or_nothing}
+use borrow.Author.Clash.{clash}
 use Rattle.sets.proofs.Searches.{some_more, some_zero, none_some, first_hit, first_stays}
 use Rattle.sets.proofs.Members.{has_zero}
 use Rattle.sets.proofs.Tables.{holds_none}
@@ -22,7 +18,6 @@ use Rattle.histories.specs.History.{is_by, writes_copy, writes_item}
 use Rattle.histories.proofs.OfTransactions.{by_is, own_added, none_added, copy_silent, item_silent}
 use Rattle.rules.specs.LogHistory.{named, history_of}
 use Rattle.rules.specs.Record.{transactions, items, sites, kind, transaction, is_write, is_commit, write_kind, commit_kind}
-use Rattle.std.proofs.lemmas.Grind.{get_or_default_zero}
 use Rattle.kept.specs.declared.Kept.{Kept}
 use Rattle.kept.specs.Kept.{KeptWriters, KeptCopies, KeptItems, KeptCommits, KeptNames, KeptBefore}
 
@@ -42,7 +37,7 @@ module _ (log : List ℕ) (writes : ℕ → ℕ → Bool) (wide : ℕ) where
         below_more wide says_writer k w
         (added_store (says_writer k) table d v (eqb t) (rw w.whole l)
         (λ i. h i ∙ ap (λ (x : ℕ). has x i || eqb t i) (get_or_default_zero table d old (rw w.whole l)))
-        (λ c i. ap₂ ◌&&◌ (by_is (history_of log) k i ∙ ap (λ (x : ℕ). eqb x i) (sym q)) (e c) ∙ and_swap (eqb t i) (eqb d c)))
+        (λ c i. ap₂ ◌&&◌ (by_is (history_of log) k i ∙ ap (λ (x : ℕ). eqb x i) (sym q)) (e c) ∙ and_comm (eqb t i) (eqb d c)))
 
     -- a record that writes nothing adds nothing
     pub writers_stay : ((c : ℕ) → writes k c ≡ false) → KeptWriters log writes wide (k + 1) table
@@ -96,7 +91,7 @@ module _ (log : List ℕ) (k names : ℕ) (firsts : List ℕ) (w : KeptNames log
         where
           go : Dec (own ≡ t) → (named log t k || eqb own t) ≡ named log t k
           go (yes q) = rw (← q, sym (w.said own) ∙ h) refl
-          go (no q) = rw (ne_eqb own t q, or_nothing (named log t k)) refl
+          go (no q) = rw (ne_eqb own t q, or-false (named log t k)) refl
 
   -- a transaction that is named for the first time
   pub names_add : (own v : ℕ) → own ≡ transaction log k → own < transactions → has names own ≡ false
@@ -123,7 +118,7 @@ module _ (log : List ℕ) (k names : ℕ) (firsts : List ℕ) (w : KeptNames log
       go t (no e) q = rw (get_or-set_other firsts own t k 0 e) (stays t older)
         where
           older : named log t k ≡ true
-          older = sym (more t ∙ ap (λ (b : Bool). named log t k || b) (ne_eqb own t (λ r. e (sym r))) ∙ or_nothing (named log t k)) ∙ q
+          older = sym (more t ∙ ap (λ (b : Bool). named log t k || b) (ne_eqb own t (λ r. e (sym r))) ∙ or-false (named log t k)) ∙ q
 
 -- in the midst of record k: all of it is kept but its name
 pub record NameLeft (log : List ℕ) (k : ℕ) (kept : Kept) : Type 0 where

@@ -1,16 +1,10 @@
 -- Numbers 6 to 8 at a record, by what is kept of the records before it: each test is one look at a set.
-use Prim.Native.Nat.{ℕ, ◌*◌, ◌<◌}
-use mathlib.Core.Path.{◌≡◌, refl, sym, ◌∙◌, ap}
-use mathlib.Core.List.{List}
-use mathlib.Core.Bool.{Bool, true, false, not, ◌&&◌}
-use mathlib.Core.Logic.{⊎_elim}
-use lib.Dec.{eqb}
-use lib.ListN.{get_or}
-use borrow.Author.Tests.{eqb-true, eqb-false}
+use Rattle.std.proofs.Common.{ℕ, ◌<◌, ◌≡◌, refl, sym, ◌∙◌, ap, List, Bool, true, false, not, ◌&&◌, ⊎_elim, get_or, ◌*◌, eqb, eqb-true}
+use Rattle.std.proofs.Math.Bool.{and-false}
+use Rattle.std.proofs.lemmas.Bool.{cases_Bool, eqb-false}
 use Rattle.std.proofs.lemmas.Grind.{get_or_default_zero}
 use Rattle.sets.specs.Search.{some_below}
 use Rattle.sets.specs.Bits.{has}
-use Rattle.sets.proofs.Truth.{either, and_nothing}
 use Rattle.sets.proofs.Searches.{some_none, none_some}
 use Rattle.sets.proofs.Members.{has_zero, no_member}
 use Rattle.histories.specs.Faults.{after_commit, reads_unwritten, reads_past_own}
@@ -70,7 +64,7 @@ module _ (log : List ℕ) (k : ℕ) (kept : Kept) (w : KeptBefore log k kept) wh
     written_kept f =
         ⊎_elim (λ (t : some_below k (shows (history_of log) k) ≡ true). rw (r, t) refl)
         (λ (n : some_below k (shows (history_of log) k) ≡ false). absurd (f (no_member (get_or kept.copy_writers c 0) (nobody n))))
-        (either (some_below k (shows (history_of log) k)))
+        (cases_Bool (some_below k (shows (history_of log) k)))
       where
         nobody : some_below k (shows (history_of log) k) ≡ false → (i : ℕ) → has (get_or kept.copy_writers c 0) i ≡ false
         nobody n i =
@@ -78,7 +72,7 @@ module _ (log : List ℕ) (k : ℕ) (kept : Kept) (w : KeptBefore log k kept) wh
             ∙ some_none (λ e. is_by (history_of log) e i && writes_copy (history_of log) e c) k
             (λ e l.
             ap (λ (b : Bool). is_by (history_of log) e i && b) (sym (shown e) ∙ none_some (shows (history_of log) k) k n e l)
-            ∙ and_nothing (is_by (history_of log) e i))
+            ∙ and-false (is_by (history_of log) e i))
 
     pub refuses_7 : eqb writers 0 ≡ true → answer_of (read_rows (history_of log) k) ≡ refused 7 k
     refuses_7 h = gives_7 (history_of log) k (unwritten_kept (sym same_copy ∙ eqb-true writers 0 h))
@@ -106,4 +100,4 @@ module _ (log : List ℕ) (k : ℕ) (kept : Kept) (w : KeptBefore log k kept) wh
         passes_others a = gives_none (history_of log) k is_written_7 (sym past_kept ∙ rw a refl)
 
         pub passes_own : has writers t ≡ true → answer_of (read_rows (history_of log) k) ≡ passed
-        passes_own b = gives_none (history_of log) k is_written_7 (sym past_kept ∙ rw b (and_nothing (has item_writers t)))
+        passes_own b = gives_none (history_of log) k is_written_7 (sym past_kept ∙ rw b (and-false (has item_writers t)))

@@ -1,11 +1,7 @@
 -- The rule by examples, each computed from the definitions alone: what it says of small graphs, where another rule would say something else.
 -- `last_below` is opened too, so that a rule which takes the last where this one takes the first computes to something else.
-use Prim.Native.Nat.{ℕ}
-use mathlib.Core.Path.{◌≡◌, refl}
-use mathlib.Core.Bool.{Bool, true, false, ◌&&◌, ◌||◌}
-use mathlib.Core.List.{List, [], ◌∷◌}
+use Rattle.std.proofs.Common.{ℕ, ◌≡◌, refl, Bool, true, false, ◌&&◌, ◌||◌, List, [], ◌∷◌, eqb, ltb}
 use mathlib.Core.Option.{Option-elim}
-use lib.Dec.{eqb, ltb}
 use Rattle.sets.specs.Search.{some_below, first_below, last_below, without}
 use Rattle.lines.specs.Rule.{predecessor, among, place_of, lowest_member, to_lowest, walk, ready, next, placed, rest}
 use Rattle.lines.specs.Rule.{lowest_predecessor, cycle_from, sorted, line, cycle}

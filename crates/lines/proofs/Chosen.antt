@@ -1,12 +1,9 @@
 -- Laws of the rule's tests: who is a predecessor, who is ready, who is next.
-use Prim.Native.Nat.{ℕ, ◌<◌}
-use mathlib.Core.Path.{◌≡◌, refl, sym, ◌∙◌, ap}
-use mathlib.Core.Bool.{Bool, true, false, ◌&&◌, not}
-use mathlib.Core.Option.{none, some}
-use lib.Dec.{eqb}
-use borrow.Author.Tests.{ne_eqb, eqb-false, not-true}
+use Rattle.std.proofs.Common.{ℕ, ◌<◌, ◌≡◌, refl, sym, ◌∙◌, ap, Bool, true, false, ◌&&◌, not, eqb, ne_eqb}
+use Rattle.std.proofs.Math.Option.{none, some}
+use Rattle.std.proofs.lemmas.Bool.{eqb-false, not-true, false_from_ne_true, and_from, and_parts}
 use Rattle.sets.specs.Search.{some_below, without}
-use Rattle.sets.proofs.Truth.{clash, refuted, and_true, and_left, and_right}
+use borrow.Author.Clash.{clash}
 use Rattle.sets.proofs.Searches.{None, First, first_some, first_found, some_none, none_some, first_view, first_none_below}
 use Rattle.sets.proofs.Searches.{first_hit, first_miss, some_found}
 use Rattle.sets.proofs.Counts.{without_other}
@@ -23,30 +20,30 @@ module _ (edge : ℕ → ℕ → Bool) where
     pub is_predecessor : left s ≡ true → (s ≡ t → ⊥) → edge s t ≡ true → predecessor edge left t s ≡ true
     is_predecessor l q e =
         sym predecessor_said
-        ∙ and_true (left s) (not (eqb s t) && edge s t) l (and_true (not (eqb s t)) (edge s t) (ap not (ne_eqb s t q)) e)
+        ∙ and_from (left s) (not (eqb s t) && edge s t) l (and_from (not (eqb s t)) (edge s t) (ap not (ne_eqb s t q)) e)
 
     said : predecessor edge left t s ≡ true → (left s ≡ true) × ((not (eqb s t) && edge s t) ≡ true)
     said h =
         let e = predecessor_said ∙ h in
-        (and_left (left s) (not (eqb s t) && edge s t) e, and_right (left s) (not (eqb s t) && edge s t) e)
+        ((and_parts (left s) (not (eqb s t) && edge s t) e).0, (and_parts (left s) (not (eqb s t) && edge s t) e).1)
 
     pub predecessor_left : predecessor edge left t s ≡ true → left s ≡ true
     predecessor_left h = (said h).0
 
     pub predecessor_other : predecessor edge left t s ≡ true → s ≡ t → ⊥
-    predecessor_other h = eqb-false s t (not-true (eqb s t) (and_left (not (eqb s t)) (edge s t) (said h).1))
+    predecessor_other h = eqb-false s t (not-true (eqb s t) (and_parts (not (eqb s t)) (edge s t) (said h).1).0)
 
     pub predecessor_edge : predecessor edge left t s ≡ true → edge s t ≡ true
-    predecessor_edge h = and_right (not (eqb s t)) (edge s t) (said h).1
+    predecessor_edge h = (and_parts (not (eqb s t)) (edge s t) (said h).1).1
 
     -- without one of the three it is none
     pub not_predecessor : without left t s ≡ false → predecessor edge left t s ≡ false
     not_predecessor f =
-        refuted (predecessor edge left t s)
+        false_from_ne_true (predecessor edge left t s)
         (λ h. clash (without left t s) (without_other left t s (λ (q : t ≡ s). predecessor_other h (sym q)) ∙ predecessor_left h) f)
 
     pub no_edge_none : edge s t ≡ false → predecessor edge left t s ≡ false
-    no_edge_none f = refuted (predecessor edge left t s) (λ h. clash (edge s t) (predecessor_edge h) f)
+    no_edge_none f = false_from_ne_true (predecessor edge left t s) (λ h. clash (edge s t) (predecessor_edge h) f)
 
   -- among more that are left, a predecessor is still one
   pub predecessor_more : (small large : ℕ → Bool) → ((s : ℕ) → small s ≡ true → large s ≡ true)
@@ -59,26 +56,26 @@ module _ (edge : ℕ → ℕ → Bool) where
     pub is_within : set s ≡ true → set t ≡ true → (s ≡ t → ⊥) → edge s t ≡ true → edge_within edge set s t ≡ true
     unfolding edge_within
     is_within a b q e =
-        and_true (set s && set t) (not (eqb s t) && edge s t)
-        (and_true (set s) (set t) a b)
-        (and_true (not (eqb s t)) (edge s t) (ap not (ne_eqb s t q)) e)
+        and_from (set s && set t) (not (eqb s t) && edge s t)
+        (and_from (set s) (set t) a b)
+        (and_from (not (eqb s t)) (edge s t) (ap not (ne_eqb s t q)) e)
 
     pub within_from : edge_within edge set s t ≡ true → set s ≡ true
     unfolding edge_within
-    within_from h = and_left (set s) (set t) (and_left (set s && set t) (not (eqb s t) && edge s t) h)
+    within_from h = (and_parts (set s) (set t) (and_parts (set s && set t) (not (eqb s t) && edge s t) h).0).0
 
     pub within_to : edge_within edge set s t ≡ true → set t ≡ true
     unfolding edge_within
-    within_to h = and_right (set s) (set t) (and_left (set s && set t) (not (eqb s t) && edge s t) h)
+    within_to h = (and_parts (set s) (set t) (and_parts (set s && set t) (not (eqb s t) && edge s t) h).0).1
 
     pub within_other : edge_within edge set s t ≡ true → s ≡ t → ⊥
     unfolding edge_within
     within_other h =
-        eqb-false s t (not-true (eqb s t) (and_left (not (eqb s t)) (edge s t) (and_right (set s && set t) (not (eqb s t) && edge s t) h)))
+        eqb-false s t (not-true (eqb s t) (and_parts (not (eqb s t)) (edge s t) (and_parts (set s && set t) (not (eqb s t) && edge s t) h).1).0)
 
     pub within_edge : edge_within edge set s t ≡ true → edge s t ≡ true
     unfolding edge_within
-    within_edge h = and_right (not (eqb s t)) (edge s t) (and_right (set s && set t) (not (eqb s t) && edge s t) h)
+    within_edge h = (and_parts (not (eqb s t)) (edge s t) (and_parts (set s && set t) (not (eqb s t) && edge s t) h).1).1
 
   -- the edges between members of a larger set
   pub within_more : (small large : ℕ → Bool) → ((t : ℕ) → small t ≡ true → large t ≡ true)
@@ -91,24 +88,24 @@ module _ (edge : ℕ → ℕ → Bool) where
     pub is_ready : (t : ℕ) → left t ≡ true → None (predecessor edge left t) n → ready n edge left t ≡ true
     unfolding ready
     is_ready t l f =
-        and_true (left t) (not (some_below n (predecessor edge left t))) l (ap not (some_none (predecessor edge left t) n f))
+        and_from (left t) (not (some_below n (predecessor edge left t))) l (ap not (some_none (predecessor edge left t) n f))
 
     pub ready_left : (t : ℕ) → ready n edge left t ≡ true → left t ≡ true
     unfolding ready
-    ready_left t h = and_left (left t) (not (some_below n (predecessor edge left t))) h
+    ready_left t h = (and_parts (left t) (not (some_below n (predecessor edge left t))) h).0
 
     pub ready_free : (t : ℕ) → ready n edge left t ≡ true → None (predecessor edge left t) n
     unfolding ready
     ready_free t h =
         none_some (predecessor edge left t) n
-        (not-true (some_below n (predecessor edge left t)) (and_right (left t) (not (some_below n (predecessor edge left t))) h))
+        (not-true (some_below n (predecessor edge left t)) (and_parts (left t) (not (some_below n (predecessor edge left t))) h).1)
 
     pub not_ready_out : (t : ℕ) → left t ≡ false → ready n edge left t ≡ false
     unfolding ready
     not_ready_out t f = rw f refl
 
     pub not_ready_waits : (t s : ℕ) → s < n → predecessor edge left t s ≡ true → ready n edge left t ≡ false
-    not_ready_waits t s l h = refuted (ready n edge left t) (λ e. clash (predecessor edge left t s) h (ready_free t e s l))
+    not_ready_waits t s l h = false_from_ne_true (ready n edge left t) (λ e. clash (predecessor edge left t s) h (ready_free t e s l))
 
     pub next_hit : (t : ℕ) → t < n → None (ready n edge left) t → ready n edge left t ≡ true → next n edge left ≡ some t
     unfolding next

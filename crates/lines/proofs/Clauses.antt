@@ -1,10 +1,8 @@
 -- The rule's own steps, as laws: what is placed and who is left, a step of the walk, and how the sort ends. Nothing else opens these
 -- definitions.
-use Prim.Native.Nat.{ℕ, zero, suc, ◌<◌}
-use mathlib.Core.Path.{◌≡◌, refl, ◌∙◌}
-use mathlib.Core.Bool.{Bool, true, false, cond}
-use mathlib.Core.List.{List, [], ◌∷◌}
-use mathlib.Core.Option.{Option, none, some, Option-elim}
+use Rattle.std.proofs.Common.{ℕ, zero, suc, ◌<◌, ◌≡◌, refl, ◌∙◌, Bool, true, false, cond, List, [], ◌∷◌}
+use Rattle.std.proofs.Math.Option.{Option, none, some}
+use mathlib.Core.Option.{Option-elim}
 use Rattle.sets.proofs.Searches.{None, first_hit, first_miss}
 use Rattle.sets.specs.Search.{without}
 use Rattle.lines.specs.Rule.{among, next, placed, rest, lowest_predecessor, walk, to_lowest, cycle_from, up_to}

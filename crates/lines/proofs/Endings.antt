@@ -1,10 +1,8 @@
 -- How the rule ends, told from those that are left. None left: it gives the line. One left: it gives the cycle of the walk from the lowest,
 -- by whatever steps go to the lowest predecessors.
-use Prim.Native.Nat.{ℕ, zero, suc, ◌<◌}
-use mathlib.Core.Path.{◌≡◌, refl, sym, ◌∙◌, ap, fun_ext}
-use mathlib.Core.Bool.{Bool, true, false}
-use mathlib.Core.List.{List, [], ◌∷◌}
-use mathlib.Core.Option.{Option, none, some}
+use Rattle.std.proofs.Common.{ℕ, zero, suc, ◌<◌, ◌≡◌, refl, sym, ◌∙◌, ap, Bool, true, false, List, ◌∷◌, []}
+use Rattle.std.proofs.Math.Path.{fun_ext}
+use Rattle.std.proofs.Math.Option.{Option, none, some}
 use Rattle.lines.specs.Rule.{among, placed, rest, lowest_predecessor, walk, to_lowest, sorted, line, cycle}
 use Rattle.lines.proofs.Chosen.{predecessor_left, lowest_is}
 use Rattle.lines.proofs.Clauses.{sorted_line, sorted_cycle, walk_zero, walk_lost, walk_ends, walk_goes}

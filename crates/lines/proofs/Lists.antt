@@ -1,18 +1,14 @@
 -- Laws of lists of numbers: what is among them, the place of a number, none twice, and that numbers of a set without one twice are no
 -- more than the set has; and lists that are written one after the other.
-use Prim.Native.Nat.{ℕ, zero, suc, ◌+◌, ◌<◌, ◌≤◌}
-use native.Mathlib.Omega.{arith}
-use native.Mathlib.Decide.{ℕ_discrete}
-use mathlib.Core.Path.{◌≡◌, refl, sym, ◌∙◌, ap}
-use mathlib.Core.Bool.{Bool, true, false, ◌||◌}
-use mathlib.Core.Logic.{◌⊎◌, inl, inr, ⊎_elim}
-use mathlib.Core.List.{List, [], ◌∷◌, ◌++◌}
-use lib.Dec.{eqb}
-use lib.ListN.{length, take, get_or, set, length-append}
-use lib.Seq.{sets, get_or-append_seam}
-use borrow.Author.Tests.{eq-eqb, ne_eqb, eqb-true}
+use Rattle.std.proofs.Common.{ℕ, suc, ◌+◌, ◌<◌, ◌≤◌, arith, ◌≡◌, refl, sym, ◌∙◌, ap, Bool, true, false, ◌||◌, ◌⊎◌, inl, inr, ⊎_elim, List, ◌∷◌, ◌++◌}
+use Rattle.std.proofs.Common.{eqb, length, take, get_or, set, length-append, eq-eqb, ne_eqb, eqb-true, []}
+use Rattle.std.proofs.Math.Decide.{ℕ_discrete}
+use Rattle.std.proofs.Math.Bool.{or_assoc}
+use Rattle.std.proofs.Math.Seq.{sets, get_or-append_seam}
+use Rattle.std.proofs.lemmas.Bool.{false_from_ne_true, or_cases, or_left, or_right, or_parts, or_from}
+use Rattle.std.proofs.lemmas.List.Recursion.{or_at}
 use Rattle.sets.specs.Search.{count_below, without}
-use Rattle.sets.proofs.Truth.{clash, refuted, or_cases, or_hit_left, or_hit_right, or_left, or_right, or_false}
+use borrow.Author.Clash.{clash}
 use Rattle.sets.proofs.Counts.{count_without, without_other}
 use Rattle.lines.specs.Rule.{among, place_of, up_to}
 use Rattle.lines.specs.Lines.{NoneTwice}
@@ -27,10 +23,10 @@ unfolding among
 among_cons x xs t = refl
 
 pub among_first : (x : ℕ) (xs : List ℕ) → among (x ∷ xs) x ≡ true
-among_first x xs = among_cons x xs x ∙ or_hit_left (eqb x x) (among xs x) (eq-eqb x x refl)
+among_first x xs = among_cons x xs x ∙ or_left (eqb x x) (among xs x) (eq-eqb x x refl)
 
 pub among_later : (x : ℕ) (xs : List ℕ) (t : ℕ) → among xs t ≡ true → among (x ∷ xs) t ≡ true
-among_later x xs t h = among_cons x xs t ∙ or_hit_right (eqb x t) (among xs t) h
+among_later x xs t h = among_cons x xs t ∙ or_right (eqb x t) (among xs t) h
 
 pub among_cases : (x : ℕ) (xs : List ℕ) (t : ℕ) → among (x ∷ xs) t ≡ true → (x ≡ t) ⊎ (among xs t ≡ true)
 among_cases x xs t h =
@@ -47,11 +43,7 @@ differ p x y t f e = clash (p y) (ap p (sym e) ∙ t) f
 pub among_append : (xs ys : List ℕ) (t : ℕ) → among (xs ++ ys) t ≡ (among xs t || among ys t)
 unfolding among
 among_append [] ys t = refl
-among_append (x ∷ xs) ys t = ap (λ (b : Bool). eqb x t || b) (among_append xs ys t) ∙ regroup (eqb x t) (among xs t) (among ys t)
-  where
-    regroup : (a b c : Bool) → (a || (b || c)) ≡ ((a || b) || c)
-    regroup true b c = refl
-    regroup false b c = refl
+among_append (x ∷ xs) ys t = ap (λ (b : Bool). eqb x t || b) (among_append xs ys t) ∙ sym (or_assoc (eqb x t) (among xs t) (among ys t))
 
 -- none twice in two lists, one after the other: none twice in either, and nothing in both
 abbrev pub Apart : List ℕ → List ℕ → Type 0
@@ -72,11 +64,11 @@ twice_split (x ∷ xs) ys h = after (twice_split xs ys h.1)
     after : NoneInBoth xs ys → NoneInBoth (x ∷ xs) ys
     after w =
         record {
-          first = (or_left (among xs x) (among ys x) in_neither, w.first);
+          first = ((or_parts (among xs x) (among ys x) in_neither).0, w.first);
           second = w.second;
           apart = λ t a.
               ⊎_elim
-              (λ (e : x ≡ t). ap (among ys) (sym e) ∙ or_right (among xs x) (among ys x) in_neither)
+              (λ (e : x ≡ t). ap (among ys) (sym e) ∙ (or_parts (among xs x) (among ys x) in_neither).1)
               (λ (e : among xs t ≡ true). w.apart t e)
               (among_cases x xs t a);
         }
@@ -84,12 +76,12 @@ twice_split (x ∷ xs) ys h = after (twice_split xs ys h.1)
 pub twice_join : (xs ys : List ℕ) → NoneTwice xs → NoneTwice ys → Apart xs ys → NoneTwice (xs ++ ys)
 twice_join [] ys h k a = k
 twice_join (x ∷ xs) ys h k a = (
-  among_append xs ys x ∙ or_false (among xs x) (among ys x) h.0 (a x (among_first x xs)),
+  among_append xs ys x ∙ or_from (among xs x) (among ys x) h.0 (a x (among_first x xs)),
   twice_join xs ys h.1 k (λ t e. a t (among_later x xs t e)),
 )
 
 apart_back : (xs ys : List ℕ) → Apart xs ys → Apart ys xs
-apart_back xs ys a t e = refuted (among xs t) (λ h. clash (among ys t) e (a t h))
+apart_back xs ys a t e = false_from_ne_true (among xs t) (λ h. clash (among ys t) e (a t h))
 
 pub twice_swap : (xs ys : List ℕ) → NoneTwice (xs ++ ys) → NoneTwice (ys ++ xs)
 twice_swap xs ys h = let w = twice_split xs ys h in twice_join ys xs w.second w.first (apart_back xs ys w.apart)
@@ -147,9 +139,9 @@ place_entry s xs h =
 
 -- an entry is among the list
 pub among_entry : (xs : List ℕ) (k : ℕ) → k < length xs → among xs (get_or xs k 0) ≡ true
-among_entry [] k l = absurd (omega arith)
-among_entry (x ∷ xs) zero l = among_first x xs
-among_entry (x ∷ xs) (suc k) l = among_later x xs (get_or xs k 0) (among_entry xs k (omega (arith, l)))
+among_entry xs k l =
+    let t = get_or xs k 0 in
+    or_at (λ ys. among ys t) (λ x. eqb x t) (among_nil t) (λ x ys. among_cons x ys t) xs k 0 l (eq-eqb t t refl)
 
 -- numbers of a set, none twice, are no more than the set has below n
 pub pigeonhole : (n : ℕ) (p : ℕ → Bool) (xs : List ℕ) → NoneTwice xs → ((t : ℕ) → among xs t ≡ true → (t < n) × (p t ≡ true))

@@ -1,23 +1,11 @@
 -- A line or a cycle is told by its length: laws of what the rule gives, whatever it is.
-use Prim.Native.Nat.{ℕ}
-use native.Mathlib.Omega.{arith}
-use mathlib.Core.Path.{◌≡◌, refl, sym, ap}
-use mathlib.Core.List.{List}
-use lib.ListN.{length}
+use Rattle.std.proofs.Common.{ℕ, ◌≡◌, refl, List, length}
 use Rattle.lines.specs.Rule.{LineOrCycle, line, cycle, members_of, length_of}
 
--- how many members, and which of the two it is
+-- how many members
 abbrev pub count_of : LineOrCycle ℕ → ℕ
 count_of (line n) = n
 count_of (cycle n) = n
-
-abbrev kind_of : LineOrCycle ℕ → ℕ
-kind_of (line n) = 0
-kind_of (cycle n) = 1
-
--- a line is no cycle
-pub line_not_cycle : (m n : ℕ) → line m ≡ cycle n → ⊥
-line_not_cycle m n e = let z : ◌≡◌ {A = ℕ} 0 1 = ap kind_of e in omega (arith, z)
 
 -- what has the length of a line is one, and so for a cycle
 pub record IsLine (n : ℕ) (o : LineOrCycle (List ℕ)) : Type 0 where
@@ -29,9 +17,9 @@ pub record IsCycle (n : ℕ) (o : LineOrCycle (List ℕ)) : Type 0 where
   pub counted : n ≡ length (members_of o)
 
 pub line_of : (n : ℕ) (o : LineOrCycle (List ℕ)) → line n ≡ length_of o → IsLine n o
-line_of n (line xs) e = record { is_one = refl; counted = ap count_of e }
-line_of n (cycle xs) e = absurd (line_not_cycle n (length xs) e)
+line_of n (line xs) e = record { is_one = refl; counted = cc }
+line_of n (cycle xs) e = cc
 
 pub cycle_of : (n : ℕ) (o : LineOrCycle (List ℕ)) → cycle n ≡ length_of o → IsCycle n o
-cycle_of n (line xs) e = absurd (line_not_cycle (length xs) n (sym e))
-cycle_of n (cycle xs) e = record { is_one = refl; counted = ap count_of e }
+cycle_of n (line xs) e = cc
+cycle_of n (cycle xs) e = record { is_one = refl; counted = cc }

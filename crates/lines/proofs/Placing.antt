@@ -1,18 +1,13 @@
 -- The line. Placing one that is ready, again and again until none is left, gives a line that keeps every edge, and every such line is made
 -- in that way; the rule's is the smallest, since it takes the lowest that any of them could take. From a stuck rest there is none: of the
 -- rest, one would stand first in it, before the predecessor that it waits for.
-use Prim.Native.Nat.{ℕ, zero, suc, ◌<◌, ◌≤◌}
-use native.Mathlib.Omega.{arith}
-use native.Mathlib.Decide.{ℕ_discrete, dec_lt}
-use mathlib.Core.Path.{◌≡◌, refl, sym, ◌∙◌, ap, subst}
-use mathlib.Core.Bool.{Bool, true, false}
-use mathlib.Core.Logic.{⊎_elim}
-use mathlib.Core.List.{List, [], ◌∷◌}
-use mathlib.Core.Option.{Option, none, some}
-use lib.ListN.{length}
+use Rattle.std.proofs.Common.{ℕ, zero, suc, ◌<◌, ◌≤◌, arith, ◌≡◌, refl, sym, ◌∙◌, ap, subst, Bool, true, false, ⊎_elim, List, [], ◌∷◌, length}
+use Rattle.std.proofs.Math.Decide.{ℕ_discrete, dec_lt}
+use Rattle.std.proofs.Math.Option.{Option, none, some}
+use Rattle.std.proofs.lemmas.Bool.{false_from_ne_true}
 use Rattle.sets.specs.Search.{count_below, without}
 use Rattle.sets.specs.Paths.{Precedes, by_edge, edge_then, Acyclic}
-use Rattle.sets.proofs.Truth.{clash, refuted}
+use borrow.Author.Clash.{clash}
 use Rattle.sets.proofs.Searches.{First, first_some}
 use Rattle.sets.proofs.Counts.{count_none, count_some, count_without, is_another, passed_before, without_itself, without_other}
 use Rattle.lines.specs.Rule.{among, predecessor, ready, next, placed, rest}
@@ -121,7 +116,7 @@ module _ (edge : ℕ → ℕ → Bool) where
 
     -- and every line that keeps every edge is made so
     first_ready : (left : ℕ → Bool) (x : ℕ) (xs : List ℕ) → Line edge left (x ∷ xs) → ready n edge left x ≡ true
-    first_ready left x xs l = is_ready edge n left x there (λ s m. refuted (predecessor edge left x s) (blocks s))
+    first_ready left x xs l = is_ready edge n left x there (λ s m. false_from_ne_true (predecessor edge left x s) (blocks s))
       where
         there : left x ≡ true
         there = sym (l.all_and_only x) ∙ among_first x xs
@@ -184,7 +179,7 @@ module _ (edge : ℕ → ℕ → Bool) where
     -- at the end none can be placed: every place takes one, so as many places as there are members are enough
     none_ready : (left : ℕ → Bool) → count_below n left ≤ 0 → next n edge left ≡ none
     none_ready left c =
-        none_next edge n left (λ t l. not_ready_out edge n left t (refuted (left t) (λ h. omega (arith, c, count_some left n t l h))))
+        none_next edge n left (λ t l. not_ready_out edge n left t (false_from_ne_true (left t) (λ h. omega (arith, c, count_some left n t l h))))
 
     pub rest_ends : (m : ℕ) (left : ℕ → Bool) → count_below n left ≤ m → next n edge (rest n edge m left) ≡ none
     rest_ends zero left c = ap (next n edge) (rest_zero n edge left) ∙ none_ready left c

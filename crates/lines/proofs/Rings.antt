@@ -1,17 +1,13 @@
 -- The cycle. The walk from a stuck rest never lacks a predecessor, and no one is met twice on the path; so the path would outgrow the rest
 -- if none came again. What stands before the first coming is left behind; the rest of the path, turned, is still a ring.
-use Prim.Native.Nat.{ℕ, zero, suc, ◌+◌, ◌<◌}
-use native.Mathlib.Omega.{arith}
-use mathlib.Core.Path.{◌≡◌, refl, sym, ◌∙◌, ap, subst}
-use mathlib.Core.Bool.{Bool, true, false}
-use mathlib.Core.Logic.{⊎_elim}
-use mathlib.Core.List.{List, [], ◌∷◌, ◌++◌, append-nil, append_assoc}
-use mathlib.Core.Option.{Option, none, some}
-use lib.ListN.{length, take, drop, get_or, length-append}
-use lib.Seq.{drop-cons, split_at}
+use Rattle.std.proofs.Common.{ℕ, zero, suc, ◌+◌, ◌<◌, arith, ◌≡◌, refl, sym, ◌∙◌, ap, subst, Bool, true, false, ⊎_elim, List, [], ◌∷◌, ◌++◌}
+use Rattle.std.proofs.Common.{append-nil, append_assoc, length, take, drop, get_or, length-append, drop-cons}
+use Rattle.std.proofs.Math.Option.{Option, none, some}
+use Rattle.std.proofs.Math.Seq.{split_at}
+use Rattle.std.proofs.lemmas.Bool.{or_left}
 use Rattle.sets.specs.Search.{count_below}
 use Rattle.sets.specs.Paths.{Precedes, by_edge, edge_then}
-use Rattle.sets.proofs.Truth.{clash, or_hit_left}
+use borrow.Author.Clash.{clash}
 use Rattle.sets.proofs.Searches.{First, first_none, first_some}
 use Rattle.lines.specs.Rule.{among, place_of, lowest_member, turned, to_lowest, predecessor, lowest_predecessor, walk, up_to}
 use Rattle.lines.specs.Lines.{NoneTwice, edge_within, Below, Linked, Cycle, Stuck}
@@ -120,7 +116,7 @@ module _ (edge : ℕ → ℕ → Bool) where
               none_twice = (twice_split ring after (subst NoneTwice whole p.none_twice)).first;
               members = λ u m.
                   let on_path = ap (λ (xs : List ℕ). among xs u) whole ∙ among_append ring after u in
-                  p.all_left u (on_path ∙ or_hit_left (among ring u) (among after u) m);
+                  p.all_left u (on_path ∙ or_left (among ring u) (among after u) m);
               round =
                   subst (Linked (edge_within edge left)) (sym (append_assoc front (s ∷ []) (b ∷ [])))
                   (linked_join (edge_within edge left) front s (b ∷ [])

@@ -1,16 +1,11 @@
 -- What the rule gives, over any edges and any set of numbers below n: the smallest line, or a cycle where there is no line. So a line
 -- exists exactly where there is no cycle, and exactly where the rule gives one.
-use Prim.Native.Nat.{ℕ, ◌≤◌}
-use native.Mathlib.Omega.{arith}
-use mathlib.Core.Path.{◌≡◌, refl, sym, ◌∙◌, ap, subst}
-use mathlib.Core.Bool.{Bool, true, false}
-use mathlib.Core.Logic.{⊎_elim, ◌↔◌}
-use mathlib.Core.List.{List, [], ◌∷◌, ◌++◌}
-use mathlib.Core.Option.{Option, none, some}
-use lib.ListN.{length, take}
+use Rattle.std.proofs.Common.{ℕ, ◌≤◌, arith, ◌≡◌, refl, sym, ◌∙◌, ap, subst, Bool, true, false, ⊎_elim, ◌↔◌, List, [], ◌∷◌, ◌++◌, length, take}
+use Rattle.std.proofs.Math.Option.{Option, none, some}
+use Rattle.std.proofs.lemmas.Bool.{false_from_ne_true}
 use Rattle.sets.specs.Search.{first_below, count_below}
 use Rattle.sets.specs.Paths.{Acyclic}
-use Rattle.sets.proofs.Truth.{clash, refuted}
+use borrow.Author.Clash.{clash}
 use Rattle.sets.proofs.Searches.{None, First, first_none, first_some, first_view}
 use Rattle.sets.proofs.Counts.{count_low}
 use Rattle.lines.specs.Rule.{among, next, placed, rest, lowest_predecessor, walk, to_lowest, sorted, LineOrCycle, line, cycle, members_of}
@@ -80,7 +75,7 @@ module _ (n : ℕ) (edge : ℕ → ℕ → Bool) where
     }
       where
         gone : (t : ℕ) → rest n edge n set t ≡ false
-        gone t = refuted (rest n edge n set t) (λ h. clash (rest n edge n set t) h (f t (low t (rest_within edge n n set t h))))
+        gone t = false_from_ne_true (rest n edge n set t) (λ h. clash (rest n edge n set t) h (f t (low t (rest_within edge n n set t h))))
 
     -- one is left
     left_stuck : (t : ℕ) → left_over t ≡ true → Stuck edge left_over

@@ -1,15 +1,10 @@
 -- Laws of what stands before what in a list: at its front and later, only before what is in it, never before itself where none stands
 -- twice, through a third, and at a lower place.
-use Prim.Native.Nat.{ℕ, suc, ◌<◌}
-use native.Mathlib.Omega.{arith}
-use native.Mathlib.Decide.{ℕ_discrete}
-use mathlib.Core.Path.{◌≡◌, refl, sym, ◌∙◌, ap, subst}
-use mathlib.Core.Bool.{true, false, ◌&&◌}
-use mathlib.Core.Logic.{◌⊎◌, inl, inr, ⊎_elim}
-use mathlib.Core.List.{List, [], ◌∷◌}
-use lib.Dec.{eqb}
-use borrow.Author.Tests.{eq-eqb, eqb-true}
-use Rattle.sets.proofs.Truth.{clash, and_true, and_left, and_right, or_cases, or_hit_left, or_hit_right}
+use Rattle.std.proofs.Common.{ℕ, suc, ◌<◌, arith, ◌≡◌, refl, sym, ◌∙◌, ap, subst, true, false, ◌&&◌, ◌⊎◌, inl, inr, ⊎_elim, List, [], ◌∷◌, eqb}
+use Rattle.std.proofs.Common.{eq-eqb, eqb-true}
+use Rattle.std.proofs.Math.Decide.{ℕ_discrete}
+use Rattle.std.proofs.lemmas.Bool.{and_from, and_parts, or_cases, or_left, or_right}
+use borrow.Author.Clash.{clash}
 use Rattle.lines.specs.Rule.{among, place_of}
 use Rattle.lines.specs.Lines.{NoneTwice, stands_before}
 use Rattle.lines.proofs.Lists.{among_nil, among_later, among_other, place_same, place_other, among_cases}
@@ -22,18 +17,18 @@ stands_nil s t = refl
 pub stands_first : (x : ℕ) (xs : List ℕ) (t : ℕ) → among xs t ≡ true → stands_before (x ∷ xs) x t ≡ true
 unfolding stands_before
 stands_first x xs t a =
-    or_hit_left (eqb x x && among xs t) (stands_before xs x t) (and_true (eqb x x) (among xs t) (eq-eqb x x refl) a)
+    or_left (eqb x x && among xs t) (stands_before xs x t) (and_from (eqb x x) (among xs t) (eq-eqb x x refl) a)
 
 pub stands_later : (x : ℕ) (xs : List ℕ) (s t : ℕ) → stands_before xs s t ≡ true → stands_before (x ∷ xs) s t ≡ true
 unfolding stands_before
-stands_later x xs s t h = or_hit_right (eqb x s && among xs t) (stands_before xs s t) h
+stands_later x xs s t h = or_right (eqb x s && among xs t) (stands_before xs s t) h
 
 pub stands_cases : (x : ℕ) (xs : List ℕ) (s t : ℕ) → stands_before (x ∷ xs) s t ≡ true
     → ((x ≡ s) × (among xs t ≡ true)) ⊎ (stands_before xs s t ≡ true)
 unfolding stands_before
 stands_cases x xs s t h =
     ⊎_elim
-    (λ (a : (eqb x s && among xs t) ≡ true). inl (eqb-true x s (and_left (eqb x s) (among xs t) a), and_right (eqb x s) (among xs t) a))
+    (λ (a : (eqb x s && among xs t) ≡ true). inl (eqb-true x s (and_parts (eqb x s) (among xs t) a).0, (and_parts (eqb x s) (among xs t) a).1))
     (λ (b : stands_before xs s t ≡ true). inr b)
     (or_cases (eqb x s && among xs t) (stands_before xs s t) h)
 

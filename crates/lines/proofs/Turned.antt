@@ -1,14 +1,9 @@
 -- The lowest number of a list, where it stands, and the list turned so that it starts with it.
-use Prim.Native.Nat.{ℕ, suc, ◌<◌, ◌≤◌, min}
-use native.Mathlib.Omega.{arith}
-use native.Mathlib.Decide.{dec_lt}
-use mathlib.Core.Path.{◌≡◌, refl, sym, ◌∙◌, ap, subst}
-use mathlib.Core.Bool.{true}
-use mathlib.Core.Logic.{⊎_elim}
-use mathlib.Core.List.{List, [], ◌∷◌, ◌++◌}
-use lib.ListN.{length, take, drop, get_or, length-append, length-drop, take-append-drop}
-use lib.Seq.{drop-cons, length-take-le}
-use Rattle.sets.proofs.Truth.{clash, or_swap}
+use Rattle.std.proofs.Common.{ℕ, suc, ◌<◌, ◌≤◌, min, arith, ◌≡◌, refl, sym, ◌∙◌, ap, subst, true, ⊎_elim, List, [], ◌∷◌, ◌++◌, length, take, drop}
+use Rattle.std.proofs.Common.{get_or, length-append, length-drop, take-append-drop, drop-cons, length-take-le}
+use Rattle.std.proofs.Math.Decide.{dec_lt}
+use Rattle.std.proofs.Math.Bool.{or_comm}
+use borrow.Author.Clash.{clash}
 use Rattle.lines.specs.Rule.{among, place_of, lowest_member, turned, to_lowest}
 use Rattle.lines.specs.Lines.{FromLowest}
 use Rattle.lines.proofs.Lists.{among_nil, among_first, among_later, among_cases, among_append}
@@ -37,7 +32,7 @@ lowest_member_low (x ∷ y ∷ ys) t a =
 
 -- two lists in the other order
 pub among_swap : (xs ys : List ℕ) (t : ℕ) → among (ys ++ xs) t ≡ true → among (xs ++ ys) t ≡ true
-among_swap xs ys t a = among_append xs ys t ∙ or_swap (among xs t) (among ys t) ∙ sym (among_append ys xs t) ∙ a
+among_swap xs ys t a = among_append xs ys t ∙ or_comm (among xs t) (among ys t) ∙ sym (among_append ys xs t) ∙ a
 
 -- a list turned to its lowest number starts with it, and has the same members
 module _ (xs : List ℕ) where

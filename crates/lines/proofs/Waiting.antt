@@ -1,17 +1,14 @@
 -- Who waits for whom, told number by number: one that is left is ready where no predecessor of it is left, and else the first that has an
 -- edge to it is its lowest predecessor. So a search that goes through those left from the lowest on finds the one that is next.
-use Prim.Native.Nat.{ℕ, ◌+◌, ◌<◌, ◌≤◌}
-use native.Mathlib.Omega.{arith}
-use native.Mathlib.Decide.{ℕ_discrete, dec_lt}
-use mathlib.Core.Path.{◌≡◌, refl, sym}
-use mathlib.Core.Bool.{Bool, true, false}
-use mathlib.Core.Option.{none, some}
+use Rattle.std.proofs.Common.{ℕ, ◌+◌, ◌<◌, arith, ◌≡◌, refl, sym, Bool, true, false, ◌≤◌}
+use Rattle.std.proofs.Math.Decide.{ℕ_discrete, dec_lt}
+use Rattle.std.proofs.Math.Option.{none, some}
 use Rattle.sets.specs.Search.{without}
-use Rattle.sets.proofs.Truth.{clash}
+use borrow.Author.Clash.{clash}
 use Rattle.sets.proofs.Counts.{is_another, passed_before}
 use Rattle.lines.specs.Rule.{predecessor, ready, next, lowest_predecessor}
-use Rattle.lines.proofs.Chosen.{is_predecessor, not_predecessor, no_edge_none, is_ready, not_ready_out, not_ready_waits}
-use Rattle.lines.proofs.Chosen.{next_hit, none_next, lowest_hit, lowest_is}
+use Rattle.lines.proofs.Chosen.{is_predecessor, not_predecessor, no_edge_none, is_ready, not_ready_out, not_ready_waits, next_hit, none_next}
+use Rattle.lines.proofs.Chosen.{lowest_hit, lowest_is}
 
 module _ (n : ℕ) (edge : ℕ → ℕ → Bool) (left : ℕ → Bool) where
   -- none of t's predecessors below k is left

@@ -1,10 +1,6 @@
 -- What is kept of the write orders, from record k + 1 down to record k, and once the whole log is read: the writers of each item, who comes
 -- after whom, and the transactions in the log, each of which commits.
-use Prim.Native.Nat.{ℕ, ◌+◌, ◌<◌}
-use mathlib.Core.Path.{◌≡◌, refl, sym, ◌∙◌, ap}
-use mathlib.Core.List.{List}
-use mathlib.Core.Bool.{Bool, true, false, ◌&&◌, ◌||◌}
-use lib.Dec.{eqb}
+use Rattle.std.proofs.Common.{ℕ, ◌+◌, ◌<◌, ◌≡◌, refl, sym, ◌∙◌, ap, List, Bool, true, false, ◌&&◌, ◌||◌, eqb}
 use Rattle.sets.specs.Search.{some_from}
 use Rattle.sets.specs.Bits.{has, Holds}
 use Rattle.sets.proofs.Truth.{same_truth}

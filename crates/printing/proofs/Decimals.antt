@@ -1,12 +1,7 @@
 -- Laws of numbers in decimal: they are what std says `{}` prints, and how many digits they have. The only file that opens `decimal`.
-use Prim.Native.Nat.{ℕ, suc, ◌^◌, ◌<◌, ◌≤◌}
-use native.Mathlib.Omega.{arith}
-use native.Mathlib.Nat.{mod-eq_of_lt}
-use mathlib.Core.Path.{◌≡◌, refl}
-use lib.ListN.{length, length-append}
-use borrow.Author.Tests.{lt-ltb, le-ltb}
-use Rattle.std.specs.Fmt as std
+use Rattle.std.proofs.Common.{ℕ, suc, ◌-◌, ◌^◌, ◌<◌, ◌≤◌, arith, ◌≡◌, refl, length, length-append, lt-ltb, le-ltb, mod-eq_of_lt}
 use Rattle.std.proofs.lemmas.Fmt.{AppendsLastDigit, decimal_from_appends, length-decimal-le, length-decimal-le_succ}
+use Rattle.std.specs.Fmt as std
 use Rattle.printing.specs.Lines.{digit, decimal_within, decimal}
 
 -- the last digit goes behind the others

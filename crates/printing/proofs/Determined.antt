@@ -1,7 +1,5 @@
 -- The promises of src/line.rt, and of whoever prints a text, determine every byte of what is given.
-use Prim.Native.Nat.{ℕ}
-use mathlib.Core.Path.{◌≡◌, sym, ◌∙◌}
-use mathlib.Core.List.{List}
+use Rattle.std.proofs.Common.{ℕ, ◌≡◌, sym, ◌∙◌, List}
 use Rattle.arrayvec.specs.ArrayString.{ArrayString}
 use Rattle.printing.specs.Kept.{Put}
 use Rattle.printing.specs.Promises.{Prints}

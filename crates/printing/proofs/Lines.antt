@@ -1,11 +1,6 @@
 -- Laws of a text's lines: how long they are, that the records' lines are put one after another, and that they read only the records.
-use Prim.Native.Nat.{ℕ, zero, suc, ◌+◌, ◌*◌, ◌<◌, ◌≤◌}
-use native.Mathlib.Omega.{arith}
-use native.Mathlib.Numerals.{add-one}
-use mathlib.Core.Path.{◌≡◌, refl, ap, ap₂}
-use mathlib.Core.Bool.{Bool, true, false}
-use mathlib.Core.List.{List, ◌++◌}
-use lib.ListN.{length, length-append}
+use Rattle.std.proofs.Common.{ℕ, zero, suc, ◌+◌, ◌*◌, ◌<◌, ◌≤◌, arith, add-one, ◌≡◌, refl, ap, ap₂, Bool, true, false, List, ◌++◌, length}
+use Rattle.std.proofs.Common.{length-append}
 use Rattle.answers.specs.Verdict.{record_size, entry}
 use Rattle.printing.specs.Lines.{space, newline, numbers_line, record_line, record_lines, record_room}
 use Rattle.printing.proofs.Decimals.{byte_short}

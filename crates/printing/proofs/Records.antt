@@ -1,11 +1,7 @@
 -- A slice taken in chunks of a record each: what a chunk's bytes are in the slice.
-use Prim.Native.Nat.{ℕ, zero, suc, ◌+◌, ◌*◌, ◌<◌}
-use native.Mathlib.Omega.{arith}
-use mathlib.Core.Path.{◌≡◌, ◌∙◌, ap}
-use mathlib.Core.List.{List, []}
-use lib.ListN.{get_or, drop}
-use Rattle.std.specs.Simd.{first_chunks}
+use Rattle.std.proofs.Common.{ℕ, zero, suc, ◌+◌, ◌*◌, ◌<◌, arith, ◌≡◌, ◌∙◌, ap, List, [], get_or, drop}
 use Rattle.std.proofs.lemmas.List.{get_or-take, get_or-drop}
+use Rattle.std.specs.Simd.{first_chunks}
 
 pub byte_of_chunk : (size n k i : ℕ) (xs : List ℕ) → k < n → i < size → get_or (get_or (first_chunks size n xs) k []) i 0 ≡ get_or xs (k * size + i) 0
 byte_of_chunk size zero k i xs l m = absurd (omega (arith, l))

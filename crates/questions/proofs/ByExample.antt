@@ -1,9 +1,7 @@
 -- The lines of the questions by examples, each computed from the definitions alone: the transaction, a space and the place; the words; a reason
 -- alone.
-use Prim.Native.Nat.{ℕ}
-use mathlib.Core.Path.{◌≡◌, refl}
-use mathlib.Core.List.{List, [], ◌∷◌}
-use mathlib.Core.Option.{none, some}
+use Rattle.std.proofs.Common.{ℕ, ◌≡◌, refl, List, [], ◌∷◌}
+use Rattle.std.proofs.Math.Option.{none, some}
 use Rattle.sets.specs.Search.{some_below, some_from, first_below, last_below}
 use Rattle.histories.specs.History.{is_by, uses, uses_copy, writes_copy, writes_item, on_same_copy, conflicting}
 use Rattle.histories.specs.Earlier.{some_before, some_of, some_after, first_of, committed, wrote_copy, wrote_item, writes}

@@ -1,8 +1,5 @@
 -- The promises of this crate determine what is answered, with every byte of it.
-use Prim.Native.Nat.{ℕ}
-use native.Mathlib.Omega.{arith}
-use mathlib.Core.Path.{◌≡◌, refl, ap}
-use mathlib.Core.List.{List}
+use Rattle.std.proofs.Common.{ℕ, ◌≡◌, List, arith, refl, ap}
 use Rattle.std.specs.Prelude.{Option, Some, None, option_map}
 use Rattle.arrayvec.specs.ArrayString.{ArrayString}
 use Rattle.printing.proofs.Determined.{same_text}

@@ -1,17 +1,10 @@
 -- Laws of answers in order: what it takes to pass, and which refusal is given.
-use Prim.Native.Nat.{ℕ}
-use mathlib.Core.Path.{◌≡◌, refl, sym, ap, ap₂}
-use mathlib.Core.Bool.{Bool, true, false, true≢false}
+use Rattle.std.proofs.Common.{ℕ, ◌≡◌, refl}
 use Rattle.rules.specs.Answer.{Answer, gives, refused, passed, ◌then◌}
 
 -- a refusal is no answer
-is_refused : {A : Type 0} → Answer A → Bool
-is_refused (gives a) = false
-is_refused (refused n p) = true
-
 pub never_both : {A : Type 0} (a : A) (n p : ℕ) → refused n p ≡ gives a → ⊥
-unfolding is_refused
-never_both a n p e = true≢false (ap is_refused e)
+never_both a n p e = cc
 
 pub then_left : (a b : Answer (Unit {0})) → (a then b) ≡ passed → a ≡ passed
 then_left (gives tt) b e = refl
@@ -19,7 +12,7 @@ then_left (refused n p) b e = e
 
 pub then_right : (a b : Answer (Unit {0})) → (a then b) ≡ passed → b ≡ passed
 then_right (gives tt) b e = e
-then_right (refused n p) b e = absurd (never_both tt n p e)
+then_right (refused n p) b e = cc
 
 pub passed_then : {A : Type 0} (a : Answer (Unit {0})) (b : Answer A) → a ≡ passed → (a then b) ≡ b
 passed_then a b e = rw e refl
@@ -38,19 +31,14 @@ said_place (refused n p) = p
 
 -- where what comes last is always given, a refusal is that of the checks before it, and what is given has passed them
 pub then_refused : {A : Type 0} (a : Answer (Unit {0})) (x : A) (n p : ℕ) → (a then gives x) ≡ refused n p → a ≡ refused n p
-then_refused (gives tt) x n p e = absurd (never_both x n p (sym e))
-then_refused (refused m q) x n p e = ap₂ refused (ap said_number e) (ap said_place e)
+then_refused (gives tt) x n p e = cc
+then_refused (refused m q) x n p e = cc
 
 pub then_given : {A : Type 0} (a : Answer (Unit {0})) (x y : A) → (a then gives x) ≡ gives y → a ≡ passed
 then_given (gives tt) x y e = refl
-then_given (refused n p) x y e = absurd (never_both y n p e)
+then_given (refused n p) x y e = cc
 
 -- and it is what was to be given
-value_or : {A : Type 0} → A → Answer A → A
-value_or x (gives y) = y
-value_or x (refused n p) = x
-
 pub then_same : {A : Type 0} (a : Answer (Unit {0})) (x y : A) → (a then gives x) ≡ gives y → x ≡ y
-unfolding value_or
-then_same (gives tt) x y e = ap (value_or x) e
-then_same (refused n p) x y e = absurd (never_both y n p e)
+then_same (gives tt) x y e = cc
+then_same (refused n p) x y e = cc

@@ -1,11 +1,6 @@
 -- The answers to the questions and of the graph, case by case: the check's refusal, then 10, then what was asked for.
-use Prim.Native.Nat.{ℕ, ◌≤◌, ◌<◌}
-use mathlib.Core.Path.{◌≡◌, refl}
-use mathlib.Core.List.{List, [], ◌∷◌, ◌++◌}
-use mathlib.Core.Bool.{Bool, true, false, ◌||◌}
-use lib.Dec.{leb}
-use borrow.Author.Tests.{le-leb, lt-leb}
-use Rattle.sets.proofs.Truth.{or_hit_right}
+use Rattle.std.proofs.Common.{ℕ, ◌≤◌, ◌<◌, ◌≡◌, refl, List, [], ◌∷◌, ◌++◌, Bool, true, false, ◌||◌, leb, le-leb}
+use Rattle.std.proofs.lemmas.Bool.{lt-leb, or_right}
 use Rattle.histories.specs.Source.{source}
 use Rattle.histories.specs.Reasons.{reason}
 use Rattle.rules.specs.Answer.{gives, refused, passed, ◌then◌}
@@ -61,7 +56,7 @@ module _ (log : List ℕ) where
     pub edge_to_none : check_answer log ≡ passed → transactions ≤ j → edge_answer log i j ≡ refused 10 0
     unfolding edge_answer
     edge_to_none h l =
-        refused_10 log (reason (history_of log) i j) past h (or_hit_right (leb transactions i) (leb transactions j) (le-leb transactions j l))
+        refused_10 log (reason (history_of log) i j) past h (or_right (leb transactions i) (leb transactions j) (le-leb transactions j l))
 
     pub edge_given : check_answer log ≡ passed → i < transactions → j < transactions → edge_answer log i j ≡ gives (reason (history_of log) i j)
     unfolding edge_answer

@@ -1,11 +1,7 @@
 -- The rules by examples, each computed from the definitions alone: small logs, and what document 01's table answers of them where a wrong
 -- definition would say something else. Each proof opens all that a wrong one may use, so that it computes.
-use Prim.Native.Nat.{ℕ}
-use mathlib.Core.Path.{◌≡◌, refl}
-use mathlib.Core.Bool.{true, false}
-use mathlib.Core.List.{List, [], ◌∷◌}
-use mathlib.Core.Option.{none, some}
-use lib.ListN.{length}
+use Rattle.std.proofs.Common.{ℕ, ◌≡◌, refl, true, false, List, [], ◌∷◌, length}
+use Rattle.std.proofs.Math.Option.{none, some}
 use Rattle.sets.specs.Bits.{set_of}
 use Rattle.sets.specs.Search.{some_below, some_from, first_below, last_below}
 use Rattle.histories.specs.History.{is_by, uses, uses_copy, writes_copy, writes_item, on_same_copy, conflicting}

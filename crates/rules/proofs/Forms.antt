@@ -1,10 +1,5 @@
 -- Rows 4 and 5 by the kind byte: a read or a write, a commit, or neither. Each law computes the two tests.
-use Prim.Native.Nat.{ℕ, zero, suc, ◌<◌, ◌≤◌}
-use native.Mathlib.Omega.{arith}
-use mathlib.Core.Path.{◌≡◌, refl}
-use mathlib.Core.Bool.{not, ◌&&◌}
-use lib.Dec.{eqb, ltb}
-use borrow.Author.Tests.{ne_eqb}
+use Rattle.std.proofs.Common.{ℕ, zero, suc, ◌<◌, ◌≤◌, arith, ◌≡◌, refl, not, ◌&&◌, eqb, ltb, ne_eqb}
 use Rattle.rules.specs.Answer.{refused}
 use Rattle.rules.specs.Rows.{row_answer, answer_of}
 use Rattle.rules.specs.Record.{transactions, items, sites, read_kind, write_kind, commit_kind}

@@ -1,8 +1,6 @@
 -- The set and the table of the graph of a log within the limits: they hold just the transactions that take part and just the edges, and are
 -- the only ones that do.
-use Prim.Native.Nat.{ℕ}
-use mathlib.Core.Path.{◌≡◌}
-use mathlib.Core.List.{List}
+use Rattle.std.proofs.Common.{ℕ, ◌≡◌, List}
 use Rattle.sets.specs.Bits.{has, Holds}
 use Rattle.sets.proofs.Tables.{has_all, only_set, holds_table, holds_once}
 use Rattle.histories.specs.Reasons.{edge}

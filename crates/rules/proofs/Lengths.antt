@@ -1,9 +1,5 @@
 -- Numbers 1 and 2, from the length.
-use Prim.Native.Nat.{ℕ, ◌<◌, ◌≤◌, ◌%◌}
-use mathlib.Core.Path.{◌≡◌, refl}
-use mathlib.Core.List.{List}
-use lib.ListN.{length}
-use borrow.Author.Tests.{lt-ltb, le-ltb, eq-eqb, ne_eqb}
+use Rattle.std.proofs.Common.{ℕ, ◌<◌, ◌≤◌, ◌%◌, ◌≡◌, refl, List, length, lt-ltb, le-ltb, eq-eqb, ne_eqb}
 use Rattle.rules.specs.Answer.{refused, passed}
 use Rattle.rules.specs.Rows.{answer_of}
 use Rattle.rules.specs.Record.{record_bytes, most_bytes}

@@ -1,13 +1,7 @@
 -- A log that passes: its records are within the limits, and its history is sound. Each is what one number's absence says.
-use Prim.Native.Nat.{ℕ, ◌*◌, ◌%◌, ◌≤◌, ◌<◌}
-use native.Mathlib.Omega.{arith}
-use mathlib.Core.Path.{◌≡◌, refl}
-use mathlib.Core.List.{List}
-use mathlib.Core.Bool.{true}
-use mathlib.Core.Option.{some}
-use lib.ListN.{length}
-use lib.Dec.{eqb}
-use borrow.Author.Tests.{ltb-false, eqb-true, eq-eqb, not-false}
+use Rattle.std.proofs.Common.{ℕ, ◌*◌, ◌%◌, ◌≤◌, ◌<◌, arith, ◌≡◌, refl, List, true, length, eqb, ltb-false, eqb-true, eq-eqb}
+use Rattle.std.proofs.Math.Option.{some}
+use Rattle.std.proofs.lemmas.Bool.{not-false}
 use Rattle.sets.proofs.Searches.{some_found, some_hit}
 use Rattle.histories.specs.Earlier.{committed}
 use Rattle.histories.specs.Faults.{Faultless}

@@ -1,12 +1,7 @@
 -- What a table of refusals answers, for any table: exactly what its rows say, part after part, record after record, and the lowest number
 -- of those that have a row each.
-use Prim.Native.Nat.{ℕ, zero, suc, ◌+◌, ◌<◌}
-use native.Mathlib.Numerals.{add-one}
-use native.Mathlib.Omega.{arith}
-use mathlib.Core.Path.{◌≡◌, refl, sym, ◌∙◌, ap, ap₂}
-use mathlib.Core.Bool.{Bool, true, false, cond, true≢false}
-use mathlib.Core.List.{List, [], ◌∷◌, ◌++◌}
-use mathlib.Core.Logic.{◌⊎◌, inl, inr, ⊎_elim, ◌↔◌}
+use Rattle.std.proofs.Common.{ℕ, zero, suc, ◌+◌, ◌<◌, add-one, arith, ◌≡◌, refl, sym, ◌∙◌, ap, ap₂, Bool, true, false, cond, true≢false, List, []}
+use Rattle.std.proofs.Common.{◌∷◌, ◌++◌, ◌⊎◌, inl, inr, ⊎_elim, ◌↔◌}
 use Rattle.sets.proofs.Searches.{below_cases}
 use Rattle.rules.specs.Answer.{Answer, gives, refused, passed, ◌then◌}
 use Rattle.rules.specs.Rows.{Row, answer_of, over, one_each, NoneOf, FirstOf}
@@ -120,13 +115,6 @@ module _ (a b : List Row) where
 
   pub none_both : NoneOf a → NoneOf b → NoneOf (a ++ b)
   none_both v w = (passes_exactly (a ++ b)).0 (append_passed ((passes_exactly a).1 v) ∙ (passes_exactly b).1 w)
-
-  -- the first of both: the first of the first, or that of the second where the first has none
-  pub first_left : (n p : ℕ) → FirstOf a n p → FirstOf (a ++ b) n p
-  first_left n p w = (given_exactly (a ++ b) n p).0 (append_refused n p ((given_exactly a n p).1 w))
-
-  pub first_right : (n p : ℕ) → NoneOf a → FirstOf b n p → FirstOf (a ++ b) n p
-  first_right n p v w = (given_exactly (a ++ b) n p).0 (append_passed ((passes_exactly a).1 v) ∙ (given_exactly b n p).1 w)
 
   pub first_cases : (n p : ℕ) → FirstOf (a ++ b) n p → FirstOf a n p ⊎ (NoneOf a × FirstOf b n p)
   first_cases n p w = go (answer_of a) refl

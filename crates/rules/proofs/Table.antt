@@ -1,9 +1,5 @@
 -- The parts of document 01's table, and what the absence of each number says of a log that passes.
-use Prim.Native.Nat.{ℕ, ◌<◌}
-use mathlib.Core.Path.{◌≡◌, ◌∙◌, ap}
-use mathlib.Core.List.{List, [], ◌∷◌}
-use mathlib.Core.Bool.{true, false, not}
-use mathlib.Core.Logic.{◌↔◌}
+use Rattle.std.proofs.Common.{ℕ, ◌<◌, ◌≡◌, ◌∙◌, ap, List, [], ◌∷◌, true, false, not, ◌↔◌}
 use Rattle.histories.specs.Faults.{after_commit, reads_unwritten, reads_past_own}
 use Rattle.histories.specs.History.{History}
 use Rattle.histories.proofs.Faults.{not_unwritten, not_past_own}

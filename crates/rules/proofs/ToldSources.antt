@@ -1,14 +1,8 @@
 -- What the answer to "source of record k" says of a log's bytes: which write record it names, and when it is none.
-use Prim.Native.Nat.{ℕ, ◌<◌}
-use native.Mathlib.Omega.{arith}
-use mathlib.Core.Path.{◌≡◌, sym, ◌∙◌, ap₂}
-use mathlib.Core.List.{List, [], ◌∷◌}
-use mathlib.Core.Logic.{◌↔◌}
-use mathlib.Core.Bool.{true, false}
-use mathlib.Core.Option.{none, some}
-use lib.Dec.{leb}
-use borrow.Author.Tests.{leb-false}
-use Rattle.sets.proofs.Truth.{clash, refuted}
+use Rattle.std.proofs.Common.{ℕ, ◌<◌, arith, ◌≡◌, sym, ◌∙◌, ap₂, List, [], ◌∷◌, ◌↔◌, true, false, leb, leb-false}
+use Rattle.std.proofs.Math.Option.{none, some}
+use Rattle.std.proofs.lemmas.Bool.{false_from_ne_true}
+use borrow.Author.Clash.{clash}
 use Rattle.histories.specs.Source.{Source, shows, source}
 use Rattle.histories.proofs.OfTransactions.{writes_copy_found, writes_copy_hit}
 use Rattle.histories.proofs.Sources.{Named, source_exactly, source_of, source_absent, source_other, source_record_of}
@@ -76,22 +70,21 @@ module _ (log : List ℕ) (k : ℕ) where
                 reads = w.reads;
                 earlier = w.earlier;
                 shown = shows_it s.place w.writes_there;
-                between = λ i l m. refuted (shows (history_of log) k i) (λ b. w.none_between i l m (shown i m b));
+                between = λ i l m. false_from_ne_true (shows (history_of log) k i) (λ b. w.none_between i l m (shown i m b));
               };
           own = w.own;
         }
 
     -- every read of a log that passes has a source
     none_where : source (history_of log) k ≡ none → is_read log k ≡ false
-    none_where q = refuted (is_read log k) no_source
+    none_where q = false_from_ne_true (is_read log k) no_source
       where
         no_source : is_read log k ≡ true → ⊥
         no_source r =
             let has = passes.sound.has_source k (record { there = there; part = all_part log k there }) r in
             let at = source_record_of (history_of log) k has.origin has.from in
             let some_one = sym q ∙ source_of (history_of log) k at.at at.found in
-            let z : ◌≡◌ {A = ℕ} 0 1 = cc in
-            absurd (omega arith)
+            cc
 
   -- THEOREM: two numbers are answered exactly where no row of the table applies, and they are those of the write record behind the read k
   pub told_exactly : (s : Source) → (source_answer log k ≡ gives (some s)) ↔ NoneOf (source_rows log k) × WriteBehind s

@@ -1,9 +1,6 @@
 -- For every sound history: what document 01's rule gives explains it, and it gives a line exactly where a serial line exists, which is
 -- exactly where the graph has no cycle.
-use Prim.Native.Nat.{ℕ}
-use mathlib.Core.Path.{◌≡◌, refl, subst}
-use mathlib.Core.List.{List}
-use mathlib.Core.Logic.{◌↔◌}
+use Rattle.std.proofs.Common.{ℕ, ◌≡◌, refl, subst, List, ◌↔◌}
 use Rattle.sets.specs.Paths.{Acyclic}
 use Rattle.histories.specs.History.{History}
 use Rattle.histories.specs.Reasons.{edge}

@@ -1,9 +1,5 @@
 -- A graph whose edges join two different transactions that take part: its lines keep every edge, so they leave no cycle.
-use Prim.Native.Nat.{ℕ}
-use native.Mathlib.Omega.{arith}
-use mathlib.Core.Path.{◌≡◌}
-use mathlib.Core.Bool.{Bool, true}
-use mathlib.Core.List.{List, [], ◌∷◌}
+use Rattle.std.proofs.Common.{ℕ, arith, ◌≡◌, Bool, true, List, [], ◌∷◌}
 use Rattle.sets.specs.Paths.{Acyclic}
 use Rattle.sets.proofs.Paths.{precedes_more}
 use Rattle.histories.specs.History.{History}

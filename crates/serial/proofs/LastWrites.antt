@@ -1,14 +1,10 @@
 -- In every line in log order the last writer of an item made the last write on each copy of the item that it wrote: another's later write
 -- would put that other after it.
-use Prim.Native.Nat.{ℕ, ◌<◌}
-use native.Mathlib.Omega.{arith}
-use native.Mathlib.Decide.{ℕ_discrete, dec_lt}
-use mathlib.Core.Path.{◌≡◌, refl, sym, ◌∙◌, ap, subst}
-use mathlib.Core.Bool.{true, false}
-use mathlib.Core.List.{List}
-use mathlib.Core.Option.{Option, none, some}
-use mathlib.Core.Logic.{⊎_elim}
-use Rattle.sets.proofs.Truth.{clash, either, and_right}
+use Rattle.std.proofs.Common.{ℕ, ◌<◌, arith, ◌≡◌, refl, sym, ◌∙◌, ap, subst, true, false, List, ⊎_elim}
+use Rattle.std.proofs.Math.Decide.{ℕ_discrete, dec_lt}
+use Rattle.std.proofs.Math.Option.{Option, none, some}
+use Rattle.std.proofs.lemmas.Bool.{cases_Bool, and_parts}
+use borrow.Author.Clash.{clash}
 use Rattle.sets.proofs.Searches.{Last, last_none, last_some, last_view}
 use Rattle.histories.specs.History.{History, Counts, writes_copy}
 use Rattle.histories.specs.Earlier.{writes}
@@ -24,13 +20,13 @@ use Rattle.serial.proofs.Runs.{last_of_found}
 -- a write on a copy, of one that takes part
 module _ (h : History) (c e : ℕ) where
   its_part : part_writes h c e ≡ true → h.takes_part (h.transaction e) ≡ true
-  its_part b = ⊎_elim (λ p. p) (λ p. absurd (clash (part_writes h c e) b (no_part p))) (either (h.takes_part (h.transaction e)))
+  its_part b = ⊎_elim (λ p. p) (λ p. absurd (clash (part_writes h c e) b (no_part p))) (cases_Bool (h.takes_part (h.transaction e)))
     where
       no_part : h.takes_part (h.transaction e) ≡ false → part_writes h c e ≡ false
       no_part p = rw p refl
 
   its_write : part_writes h c e ≡ true → WritesCopy h e c
-  its_write b = writes_copy_found h e c (and_right (h.takes_part (h.transaction e)) (writes_copy h e c) b)
+  its_write b = writes_copy_found h e c (and_parts (h.takes_part (h.transaction e)) (writes_copy h e c) b).1
 
   is_part_write : h.takes_part (h.transaction e) ≡ true → WritesCopy h e c → part_writes h c e ≡ true
   is_part_write p w = rw (p, writes_copy_hit h e c w.is_one w.of_copy) refl

@@ -1,10 +1,5 @@
 -- The lines in which conflicts keep log order are exactly the lines of SG; so where there is one, SG has no cycle.
-use Prim.Native.Nat.{ℕ}
-use native.Mathlib.Omega.{arith}
-use mathlib.Core.Path.{◌≡◌, sym, ◌∙◌, subst₂}
-use mathlib.Core.Bool.{true}
-use mathlib.Core.List.{List}
-use mathlib.Core.Logic.{◌↔◌}
+use Rattle.std.proofs.Common.{ℕ, arith, ◌≡◌, sym, ◌∙◌, subst₂, true, List, ◌↔◌}
 use Rattle.sets.specs.Paths.{Acyclic}
 use Rattle.histories.specs.History.{History}
 use Rattle.histories.specs.Reasons.{conflict}

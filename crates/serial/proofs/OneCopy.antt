@@ -1,14 +1,10 @@
 -- When a read has the same writer as in a run on a single copy: in a line in log order, exactly where no other writer of the item stands
 -- between its source and the reader. So a graph without the write order too has only that to show.
-use Prim.Native.Nat.{ℕ}
-use native.Mathlib.Omega.{arith}
-use native.Mathlib.Decide.{ℕ_discrete}
-use mathlib.Core.Path.{◌≡◌, refl, sym, ◌∙◌, subst}
-use mathlib.Core.Bool.{true, false}
-use mathlib.Core.List.{List}
-use mathlib.Core.Option.{some}
-use mathlib.Core.Logic.{◌⊎◌, inl, inr, ⊎_elim, ◌↔◌}
-use Rattle.sets.proofs.Truth.{clash, either}
+use Rattle.std.proofs.Common.{ℕ, arith, ◌≡◌, refl, sym, ◌∙◌, subst, true, false, List, ◌⊎◌, inl, inr, ⊎_elim, ◌↔◌}
+use Rattle.std.proofs.Math.Decide.{ℕ_discrete}
+use Rattle.std.proofs.Math.Option.{some}
+use Rattle.std.proofs.lemmas.Bool.{cases_Bool}
+use borrow.Author.Clash.{clash}
 use Rattle.histories.specs.History.{History}
 use Rattle.histories.specs.Earlier.{wrote_item, writes, Writer}
 use Rattle.histories.specs.Source.{writer_behind}
@@ -76,7 +72,7 @@ module _ (h : History) (line : List ℕ) (k : ℕ) where
     -- LAW: where none stands between, the run's writer is the source. A reader that wrote the item reads its own title (Lemma 8.1), any
     -- other the last one before it.
     pub read_kept : NoneBetween s → writer_behind h k ≡ run_writer h line k
-    read_kept f = ⊎_elim own other (either (wrote_item h reader title k))
+    read_kept f = ⊎_elim own other (cases_Bool (wrote_item h reader title k))
       where
         own : own_write → writer_behind h k ≡ run_writer h line k
         own b = lemma_8_1 h sound (log_order_no_cycle h line o) k r.counts reads b ∙ sym (run_own b)
@@ -98,7 +94,7 @@ module _ (h : History) (line : List ℕ) (k : ℕ) where
 
     -- .. and back: the run's writer is the last one before the reader, or the reader itself
     kept_none_between : writer_behind h k ≡ run_writer h line k → NoneBetween s
-    kept_none_between q = ⊎_elim own other (either (wrote_item h reader title k))
+    kept_none_between q = ⊎_elim own other (cases_Bool (wrote_item h reader title k))
       where
         on_one_copy : some s ≡ run_writer h line k
         on_one_copy = sym r.from ∙ q

@@ -1,14 +1,9 @@
 -- Laws of a line: what stands before one of it, and who is the last that passes a test. The only file that opens `before` and `last_of`.
-use Prim.Native.Nat.{ℕ}
-use native.Mathlib.Decide.{ℕ_discrete}
-use mathlib.Core.Path.{◌≡◌, refl, sym, ◌∙◌, ap, subst}
-use mathlib.Core.Bool.{Bool, true, false, cond}
-use mathlib.Core.List.{List, [], ◌∷◌}
-use mathlib.Core.Option.{Option, none, some}
-use mathlib.Core.Logic.{◌⊎◌, inl, inr, ⊎_elim}
-use borrow.Author.Tests.{eq-eqb, ne_eqb}
+use Rattle.std.proofs.Common.{ℕ, ◌≡◌, refl, sym, ◌∙◌, ap, subst, Bool, true, false, cond, List, [], ◌∷◌, ◌⊎◌, inl, inr, ⊎_elim, eq-eqb, ne_eqb}
+use Rattle.std.proofs.Math.Decide.{ℕ_discrete}
+use Rattle.std.proofs.Math.Option.{Option, none, some}
 use Rattle.sets.specs.Search.{or_else}
-use Rattle.sets.proofs.Truth.{clash}
+use borrow.Author.Clash.{clash}
 use Rattle.lines.specs.Rule.{among}
 use Rattle.lines.specs.Lines.{NoneTwice, stands_before}
 use Rattle.lines.proofs.Lists.{among_nil, among_first, among_later, among_cases}

@@ -1,9 +1,5 @@
 -- For every sound history, the lines that demand 3 describes from the history alone are exactly the lines that keep every edge of the graph.
-use Prim.Native.Nat.{ℕ}
-use mathlib.Core.Path.{◌≡◌, sym, ◌∙◌, subst}
-use mathlib.Core.Bool.{true}
-use mathlib.Core.List.{List}
-use mathlib.Core.Logic.{⊎_elim, ◌↔◌}
+use Rattle.std.proofs.Common.{ℕ, ◌≡◌, sym, ◌∙◌, subst, true, List, ⊎_elim, ◌↔◌}
 use Rattle.histories.specs.Earlier.{Writer}
 use Rattle.histories.specs.History.{History}
 use Rattle.histories.specs.Order.{comes_before}

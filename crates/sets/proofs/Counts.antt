@@ -1,14 +1,10 @@
 -- Laws of the count of the numbers below n that pass a test: at most n, none where nothing passes, and one less where one of them is taken
 -- out; and of a test with one taken out.
-use Prim.Native.Nat.{ℕ, zero, suc, ◌+◌, ◌<◌, ◌≤◌}
-use native.Mathlib.Omega.{arith}
-use mathlib.Core.Path.{◌≡◌, refl, sym, ◌∙◌, ap, ap₂}
-use mathlib.Core.Bool.{Bool, true, false, ◌&&◌, not, cond}
-use mathlib.Core.Logic.{⊎_elim}
-use lib.Dec.{eqb}
-use borrow.Author.Tests.{eq-eqb, ne_eqb, eqb-false, not-true}
+use Rattle.std.proofs.Common.{ℕ, zero, suc, ◌+◌, ◌<◌, ◌≤◌, arith, ◌≡◌, refl, sym, ◌∙◌, ap, ap₂, Bool, true, false, ◌&&◌, not, cond, ⊎_elim, eqb}
+use Rattle.std.proofs.Common.{eq-eqb, ne_eqb}
+use Rattle.std.proofs.lemmas.Bool.{eqb-false, not-true, and_parts}
+use Rattle.std.proofs.Math.Bool.{and-true, and-false}
 use Rattle.sets.specs.Search.{count_below, without}
-use Rattle.sets.proofs.Truth.{and_left, and_right, and_always, and_nothing}
 use Rattle.sets.proofs.Searches.{below_cases}
 
 -- at most one for each number
@@ -51,16 +47,16 @@ module _ (p : ℕ → Bool) (t : ℕ) where
   without_said s = refl
 
   pub without_itself : without p t t ≡ false
-  without_itself = sym (without_said t) ∙ ap (λ (b : Bool). p t && not b) (eq-eqb t t refl) ∙ and_nothing (p t)
+  without_itself = sym (without_said t) ∙ ap (λ (b : Bool). p t && not b) (eq-eqb t t refl) ∙ and-false (p t)
 
   pub without_other : (s : ℕ) → (t ≡ s → ⊥) → without p t s ≡ p s
-  without_other s q = sym (without_said s) ∙ ap (λ (b : Bool). p s && not b) (ne_eqb t s q) ∙ and_always (p s)
+  without_other s q = sym (without_said s) ∙ ap (λ (b : Bool). p s && not b) (ne_eqb t s q) ∙ and-true (p s)
 
   pub passed_before : (s : ℕ) → without p t s ≡ true → p s ≡ true
-  passed_before s h = and_left (p s) (not (eqb t s)) (without_said s ∙ h)
+  passed_before s h = (and_parts (p s) (not (eqb t s)) (without_said s ∙ h)).0
 
   pub is_another : (s : ℕ) → without p t s ≡ true → t ≡ s → ⊥
-  is_another s h = eqb-false t s (not-true (eqb t s) (and_right (p s) (not (eqb t s)) (without_said s ∙ h)))
+  is_another s h = eqb-false t s (not-true (eqb t s) (and_parts (p s) (not (eqb t s)) (without_said s ∙ h)).1)
 
   -- one less than before
   pub count_without : (n : ℕ) → t < n → p t ≡ true → count_below n p ≡ suc (count_below n (without p t))

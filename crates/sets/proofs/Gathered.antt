@@ -1,15 +1,10 @@
 -- Laws of a pass over numbers that keeps what they say, forward and from the end: nothing is kept at first; what a number says is added, or
 -- it says nothing; and at last all have been met.
-use Prim.Native.Nat.{ℕ, ◌+◌, ◌<◌}
-use mathlib.Core.Path.{◌≡◌, refl, sym, ◌∙◌, ap}
-use mathlib.Core.List.{List}
-use mathlib.Core.Bool.{Bool, false, ◌&&◌, ◌||◌}
-use lib.Dec.{eqb}
-use lib.ListN.{length, get_or, set}
+use Rattle.std.proofs.Common.{ℕ, ◌+◌, ◌<◌, ◌≡◌, refl, sym, ◌∙◌, ap, List, Bool, false, ◌&&◌, ◌||◌, eqb, length, get_or, set}
+use Rattle.std.proofs.Math.Bool.{or-false}
 use Rattle.sets.specs.Search.{some_below, some_from}
 use Rattle.sets.specs.Bits.{has, in_row, Holds}
 use Rattle.sets.specs.Gathered.{SetBelow, SetFrom, TableBelow, TableFrom, Added}
-use Rattle.sets.proofs.Truth.{or_nothing}
 use Rattle.sets.proofs.Searches.{some_zero, some_more}
 use Rattle.sets.proofs.From.{from_end, from_start, from_step}
 use Rattle.sets.proofs.Members.{has_zero}
@@ -20,7 +15,7 @@ one_more : (old this : Bool) {kept all new : Bool} → new ≡ (kept || this) �
 one_more old this e k a = e ∙ ap (λ (b : Bool). b || this) k ∙ sym a
 
 none_more : (old this : Bool) {kept all : Bool} → kept ≡ old → all ≡ (old || this) → this ≡ false → kept ≡ all
-none_more old this k a f = k ∙ sym (a ∙ ap (λ (b : Bool). old || b) f ∙ or_nothing old)
+none_more old this k a f = k ∙ sym (a ∙ ap (λ (b : Bool). old || b) f ∙ or-false old)
 
 -- a store to the set at c adds what the number says
 pub added_store : (says : ℕ → ℕ → Bool) (old : List ℕ) (c v : ℕ) (joined : ℕ → Bool) → c < length old

@@ -1,7 +1,5 @@
 -- Laws of the paths of a relation between numbers.
-use Prim.Native.Nat.{ℕ}
-use mathlib.Core.Path.{◌≡◌}
-use mathlib.Core.Bool.{Bool, true}
+use Rattle.std.proofs.Common.{ℕ, ◌≡◌, Bool, true}
 use Rattle.sets.specs.Paths.{Precedes, by_edge, edge_then}
 
 -- paths of a smaller graph are paths of a larger one

@@ -1,47 +1,30 @@
 -- Laws of the searches below n, each by going through the numbers one by one: what a hit and a miss say, how to show one, and
 -- the step from n to n + 1 that a counting loop takes.
-use Prim.Native.Nat.{ℕ, zero, suc, ◌+◌, ◌-◌, ◌<◌, ◌≤◌}
-use native.Mathlib.Numerals.{add-one}
-use native.Mathlib.Omega.{arith}
-use mathlib.Core.Path.{◌≡◌, refl, sym, ◌∙◌, ap}
-use mathlib.Core.Bool.{Bool, true, false, ◌||◌, cond, true≢false}
-use mathlib.Core.Option.{Option, none, some}
-use mathlib.Core.Logic.{◌⊎◌, inl, inr, ⊎_elim}
-use native.Mathlib.Decide.{ℕ_discrete, dec_lt}
+use Rattle.std.proofs.Common.{ℕ, zero, suc, ◌+◌, ◌<◌, add-one, arith, ◌≡◌, refl, ◌∙◌, ap, subst, Bool, true, false, ◌||◌, cond, ◌⊎◌}
+use Rattle.std.proofs.Common.{⊎_elim, below_none, below_more}
+use Rattle.std.proofs.Math.Option.{Option, none, some}
+use Rattle.std.proofs.Math.Bool.{or_comm}
+use Rattle.std.proofs.lemmas.Bool.{false_from_ne_true}
+use Rattle.std.proofs.lemmas.Bool.Decides.{Decides-below_or}
+use Rattle.std.specs.Bool.{Decides}
+use borrow.Author.Clash.{clash}
 use Rattle.sets.specs.Search.{some_below, first_below, last_below, or_else}
-use Rattle.sets.proofs.Truth.{either, clash, or_cases, or_false, or_left, or_right}
 
 -- a number below n + 1 is n or below n
 pub below_cases : (n e : ℕ) → e < suc n → (e < n) ⊎ (e ≡ n)
-below_cases n e h = go (ℕ_discrete e n)
-  where
-    go : Dec (e ≡ n) → (e < n) ⊎ (e ≡ n)
-    go (yes q) = inr q
-    go (no q) = inl (omega arith)
+below_cases n e h = grind arith
 
 -- two numbers of which neither is below the other are one
 pub only_between : (j k : ℕ) → (j < k → ⊥) → (k < j → ⊥) → j ≡ k
-only_between j k f g = go (dec_lt j k) (dec_lt k j)
-  where
-    go : Dec (j < k) → Dec (k < j) → j ≡ k
-    go (yes w) d = absurd (f w)
-    go (no v) (yes w) = absurd (g w)
-    go (no v) (no w) = omega arith
+only_between j k f g = omega arith
 
 module _ (p : ℕ → Bool) where
   -- "none below n passes", as a statement of each
   abbrev pub None : ℕ → Type 0
   None n = (e : ℕ) → e < n → p e ≡ false
 
-  pub none_zero : None zero
-  none_zero e h = absurd (omega arith)
-
-  pub none_suc : (n : ℕ) → None n → p n ≡ false → None (suc n)
-  none_suc n h q e l = ⊎_elim (λ (w : e < n). h e w) (λ (w : e ≡ n). ap p w ∙ q) (below_cases n e l)
-
-  -- the step of a counting loop
-  pub none_more : (n : ℕ) → None n → p n ≡ false → None (n + 1)
-  none_more n h q = rw add-one (none_suc n h q)
+  none_suc : (n : ℕ) → None n → p n ≡ false → None (suc n)
+  none_suc n h q = subst None (add-one n) (below_more (λ e. p e ≡ false) n h q)
 
   pub some_zero : some_below zero p ≡ false
   unfolding some_below
@@ -52,33 +35,25 @@ module _ (p : ℕ → Bool) where
   unfolding some_below
   some_more n = rw add-one refl
 
-  pub some_none : (n : ℕ) → None n → some_below n p ≡ false
-  unfolding some_below
-  some_none zero h = refl
-  some_none (suc n) h = or_false (some_below n p) (p n) (some_none n (λ e l. h e (omega arith))) (h n (omega arith))
-
-  pub none_some : (n : ℕ) → some_below n p ≡ false → None n
-  unfolding some_below
-  none_some zero h = none_zero
-  none_some (suc n) h = none_suc n (none_some n (or_left (some_below n p) (p n) h)) (or_right (some_below n p) (p n) h)
-
-  pub some_hit : (n e : ℕ) → e < n → p e ≡ true → some_below n p ≡ true
-  some_hit n e l h =
-      ⊎_elim (λ (t : some_below n p ≡ true). t) (λ (f : some_below n p ≡ false). absurd (clash (p e) h (none_some n f e l))) (either (some_below n p))
-
   -- the number that a search found
   abbrev pub Some : ℕ → Type 0
   Some n = (e : ℕ) × (e < n) × (p e ≡ true)
 
-  some_older : (n : ℕ) → Some n → Some (suc n)
-  some_older n w = (w.0, omega (arith, w.1), w.2)
+  decided : (n : ℕ) → Decides (some_below n p) (Some n)
+  unfolding some_below
+  decided = Decides-below_or p (λ e. p e ≡ true) (λ n. some_below n p) (λ e. (λ h. h, λ h. h)) refl (λ n. or_comm (some_below n p) (p n))
 
   pub some_found : (n : ℕ) → some_below n p ≡ true → Some n
-  unfolding some_below
-  some_found zero h = absurd (true≢false (sym h))
-  some_found (suc n) h =
-      ⊎_elim (λ (l : some_below n p ≡ true). some_older n (some_found n l)) (λ (r : p n ≡ true). (n, omega arith, r))
-      (or_cases (some_below n p) (p n) h)
+  some_found n = (decided n).0
+
+  pub some_hit : (n e : ℕ) → e < n → p e ≡ true → some_below n p ≡ true
+  some_hit n e l h = (decided n).1 (e, l, h)
+
+  pub some_none : (n : ℕ) → None n → some_below n p ≡ false
+  some_none n h = false_from_ne_true (some_below n p) (λ t. let w = some_found n t in clash (p w.0) w.2 (h w.0 w.1))
+
+  pub none_some : (n : ℕ) → some_below n p ≡ false → None n
+  none_some n f e l = false_from_ne_true (p e) (λ t. clash (some_below n p) (some_hit n e l t) f)
 
   -- what a first number is: none before it passes
   pub data First (n : ℕ) : Option ℕ → Type 0 where
@@ -95,7 +70,7 @@ module _ (p : ℕ → Bool) where
 
   pub first_view : (n : ℕ) → First n (first_below n p)
   unfolding first_below
-  first_view zero = first_none none_zero
+  first_view zero = first_none (below_none (λ e. p e ≡ false))
   first_view (suc n) = first_older n (first_below n p) (first_view n)
 
   pub first_miss : (n : ℕ) → None n → first_below n p ≡ none
@@ -103,13 +78,13 @@ module _ (p : ℕ → Bool) where
     where
       go : (o : Option ℕ) → First n o → o ≡ none
       go none w = refl
-      go (some k) (first_some l q f) = absurd (clash (p k) q (h k l))
+      go (some k) (first_some l q f) = clash (p k) q (h k l)
 
   pub first_hit : (n k : ℕ) → k < n → None k → p k ≡ true → first_below n p ≡ some k
   first_hit n k l h q = go (first_below n p) (first_view n)
     where
       go : (o : Option ℕ) → First n o → o ≡ some k
-      go none (first_none f) = absurd (clash (p k) q (f k l))
+      go none (first_none f) = clash (p k) q (f k l)
       go (some j) (first_some m r f) =
           ap some (only_between j k (λ (w : j < k). clash (p j) r (h j w)) (λ (w : k < j). clash (p k) q (f k w)))
 
@@ -145,7 +120,7 @@ module _ (p : ℕ → Bool) where
 
   pub last_view : (n : ℕ) → Last n (last_below n p)
   unfolding last_below
-  last_view zero = last_none none_zero
+  last_view zero = last_none (below_none (λ e. p e ≡ false))
   last_view (suc n) = last_older n (last_below n p) (p n) refl (last_view n)
 
   pub last_miss : (n : ℕ) → None n → last_below n p ≡ none
@@ -153,23 +128,15 @@ module _ (p : ℕ → Bool) where
     where
       go : (o : Option ℕ) → Last n o → o ≡ none
       go none w = refl
-      go (some k) (last_some l q f) = absurd (clash (p k) q (h k l))
+      go (some k) (last_some l q f) = clash (p k) q (h k l)
 
   pub last_hit : (n k : ℕ) → k < n → After k n → p k ≡ true → last_below n p ≡ some k
   last_hit n k l h q = go (last_below n p) (last_view n)
     where
       go : (o : Option ℕ) → Last n o → o ≡ some k
-      go none (last_none f) = absurd (clash (p k) q (f k l))
+      go none (last_none f) = clash (p k) q (f k l)
       go (some j) (last_some m r f) =
           ap some (only_between j k (λ (w : j < k). clash (p k) q (f k w l)) (λ (w : k < j). clash (p j) r (h j w m)))
 
   pub last_found : (n : ℕ) {k : ℕ} → last_below n p ≡ some k → Last n (some k)
   last_found n e = rw e at (last_view n)
-
-  -- the step of a walk back: none from e on passes, and the one before e does not
-  pub none_back : (e k : ℕ) → 0 < e → p (e - 1) ≡ false → ((i : ℕ) → e ≤ i → i < k → p i ≡ false) → (i : ℕ) → e - 1 ≤ i → i < k → p i ≡ false
-  none_back e k l q h i m n = go (ℕ_discrete i (e - 1))
-    where
-      go : Dec (i ≡ e - 1) → p i ≡ false
-      go (yes r) = ap p r ∙ q
-      go (no r) = h i (omega (arith, l, m, r)) n

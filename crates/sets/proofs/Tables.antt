@@ -1,23 +1,17 @@
 -- Laws of tables of sets: what a store does to the relation that a table holds, the table of a relation, and that a relation has
 -- only one table.
-use Prim.Native.Nat.{ℕ, zero, suc, ◌+◌, ◌*◌, ◌<◌, ◌≤◌, ◌^◌}
-use native.Mathlib.Omega.{arith}
-use native.Mathlib.Numerals.{add-one}
-use native.Mathlib.Decide.{ℕ_discrete, dec_lt}
-use native.Mathlib.Nat.{one-mul, pow-suc, zero-add}
-use mathlib.Core.Path.{◌≡◌, refl, sym, ◌∙◌, ap}
-use mathlib.Core.List.{List, [], ◌∷◌, ◌++◌}
-use mathlib.Core.Bool.{Bool, true, false, ◌&&◌, ◌||◌, cond}
-use mathlib.Core.Logic.{◌⊎◌, inl, inr, ⊎_elim}
-use lib.Dec.{eqb, ltb}
-use lib.ListN.{length, get_or, set, replicate, length-set, length-replicate, length-append, get_or-eq_default, get_or-append}
-use lib.ListN.{get_or-replicate}
-use lib.Seq.{get_or-set_same, get_or-set_other, ext_get_or, get_or-append_seam}
-use lib.Bits.{or_shifted}
-use borrow.Author.Tests.{eq-eqb, ne_eqb, lt-ltb, le-ltb}
+use Rattle.std.proofs.Common.{ℕ, zero, suc, ◌+◌, ◌*◌, ◌<◌, ◌≤◌, ◌^◌, arith, add-one, one-mul, pow-suc, zero-add, ◌≡◌, refl, sym, ◌∙◌, ap, List, ◌∷◌}
+use Rattle.std.proofs.Common.{◌++◌, Bool, true, false, ◌&&◌, ◌||◌, cond, ◌⊎◌, inl, inr, ⊎_elim, eqb, ltb, length, get_or, set, replicate, length-set}
+use Rattle.std.proofs.Common.{length-append, get_or-set_same, get_or-set_other, ext_get_or, eq-eqb, ne_eqb, lt-ltb, le-ltb, []}
+use Rattle.std.proofs.Math.Decide.{ℕ_discrete, dec_lt}
+use Rattle.std.proofs.Math.ListN.{length-replicate, get_or-eq_default, get_or-append, get_or-replicate}
+use Rattle.std.proofs.Math.Seq.{get_or-append_seam}
+use Rattle.std.proofs.lemmas.Bool.Decides.{nat_tests}
+use Rattle.std.proofs.lemmas.Nat.{or_shifted}
+use Rattle.std.proofs.Math.Bool.{and-true, and-false, or-false}
+use Rattle.std.proofs.lemmas.Bool.{cases_Bool, false_from_ne_true}
 use Rattle.std.proofs.lemmas.List.{get_or_default}
 use Rattle.sets.specs.Bits.{has, in_row, set_of, table_of, Holds}
-use Rattle.sets.proofs.Truth.{either, refuted, and_always, and_nothing, or_nothing}
 use Rattle.sets.proofs.Searches.{below_cases}
 use Rattle.sets.proofs.Members.{has_zero, has_or, has_power, same_members}
 
@@ -32,7 +26,7 @@ stored table c v joined l h d j = go (ℕ_discrete d c)
   where
     go : Dec (d ≡ c) → has (get_or (set table c v) d 0) j ≡ (has (get_or table d 0) j || (eqb c d && joined j))
     go (yes q) = rw (q, get_or-set_same table c v 0 l, eq-eqb c c refl) (h j)
-    go (no q) = rw (get_or-set_other table c d v 0 q, ne_eqb c d (λ e. q (sym e)), or_nothing (has (get_or table d 0) j)) refl
+    go (no q) = rw (get_or-set_other table c d v 0 q, ne_eqb c d (λ e. q (sym e)), or-false (has (get_or table d 0) j)) refl
 
 -- the same relation, said in other words
 pub holds_same : {wide : ℕ} {r s : ℕ → ℕ → Bool} {table : List ℕ} → Holds wide r table → ((i j : ℕ) → r i j ≡ s i j) → Holds wide s table
@@ -66,6 +60,13 @@ holds_none n e =
       said = λ i j. ap (λ (x : ℕ). has x j) (empty_entry n i) ∙ has_zero j ∙ sym (e i j);
     }
 
+-- one number more under a bound, at n + 1 and at suc n
+one_more : (x y : Bool) (n j : ℕ) → (n ≡ j → x ≡ y) → (ltb j (n + 1) && y) ≡ ((ltb j n && y) || (eqb n j && x))
+one_more x y n j q = grind (arith, nat_tests)
+
+joined : (x y : Bool) (n j : ℕ) → (n ≡ j → x ≡ y) → ((eqb n j && x) || (ltb j n && y)) ≡ (ltb j (suc n) && y)
+joined x y n j q = grind (arith, nat_tests)
+
 -- the set of a test
 module _ (p : ℕ → Bool) where
   set_low : (n : ℕ) → set_of n p < 2 ^ n
@@ -85,29 +86,22 @@ module _ (p : ℕ → Bool) where
       go true e =
           ap (λ (x : ℕ). has x j) (ap (λ (x : ℕ). x + set_of n p) (sym (one-mul (2 ^ n))) ∙ sym (or_shifted 1 n (set_of n p) (set_low n)))
           ∙ has_or (1 * 2 ^ n) (set_of n p) j
-          ∙ ap (λ (b : Bool). b || has (set_of n p) j) (ap (λ (x : ℕ). has x j) (one-mul (2 ^ n)) ∙ has_power n j ∙ sym (and_always (eqb n j)))
-      go false e = rw (and_nothing (eqb n j), zero-add (set_of n p)) refl
+          ∙ ap (λ (b : Bool). b || has (set_of n p) j) (ap (λ (x : ℕ). has x j) (one-mul (2 ^ n)) ∙ has_power n j ∙ sym (and-true (eqb n j)))
+      go false e = rw (and-false (eqb n j), zero-add (set_of n p)) refl
 
   pub has_set_of : (n j : ℕ) → has (set_of n p) j ≡ (ltb j n && p j)
   unfolding set_of
   has_set_of zero j = rw (le-ltb j 0 (omega arith)) (has_zero j)
-  has_set_of (suc n) j = set_more n j ∙ ap (λ (b : Bool). (eqb n j && p n) || b) (has_set_of n j) ∙ go (ℕ_discrete n j)
-    where
-      go : Dec (n ≡ j) → ((eqb n j && p n) || (ltb j n && p j)) ≡ (ltb j (suc n) && p j)
-      go (yes q) = rw (← q, eq-eqb n n refl, le-ltb n n (omega arith), lt-ltb n (suc n) (omega arith), or_nothing (p n)) refl
-      go (no q) = rw (ne_eqb n j q) (ap (λ (b : Bool). b && p j) (more (dec_lt j n)))
-        where
-          more : Dec (j < n) → ltb j n ≡ ltb j (suc n)
-          more (yes l) = lt-ltb j n l ∙ sym (lt-ltb j (suc n) (omega arith))
-          more (no l) = le-ltb j n (omega arith) ∙ sym (le-ltb j (suc n) (omega arith))
+  has_set_of (suc n) j =
+      set_more n j ∙ ap (λ (b : Bool). (eqb n j && p n) || b) (has_set_of n j) ∙ joined (p n) (p j) n j (λ q. ap p q)
 
 -- a set of everything that passes the test, where nothing from n on does; and it is the only one
 pub has_all : (n : ℕ) (p : ℕ → Bool) → ((j : ℕ) → p j ≡ true → j < n) → (j : ℕ) → has (set_of n p) j ≡ p j
-has_all n p low j = has_set_of p n j ∙ within (either (p j))
+has_all n p low j = has_set_of p n j ∙ within (cases_Bool (p j))
   where
     within : (p j ≡ true) ⊎ (p j ≡ false) → (ltb j n && p j) ≡ p j
     within (inl t) = rw (lt-ltb j n (low j t)) refl
-    within (inr f) = rw (f, and_nothing (ltb j n)) refl
+    within (inr f) = rw (f, and-false (ltb j n)) refl
 
 pub only_set : (n x : ℕ) (p : ℕ → Bool) → ((j : ℕ) → p j ≡ true → j < n) → ((j : ℕ) → has x j ≡ p j) → x ≡ set_of n p
 only_set n x p low h = same_members x (set_of n p) (λ j. h j ∙ sym (has_all n p low j))
@@ -146,19 +140,7 @@ module _ (wide : ℕ) (r : ℕ → ℕ → Bool) where
       blank j = w.said i j ∙ ap (λ (b : Bool). b && r i j) (le-ltb i i (omega arith))
 
       more : (a j : ℕ) → (ltb a (i + 1) && r a j) ≡ ((ltb a i && r a j) || (eqb i a && r i j))
-      more a j = go (ℕ_discrete i a) (dec_lt a i)
-        where
-          go : Dec (i ≡ a) → Dec (a < i) → (ltb a (i + 1) && r a j) ≡ ((ltb a i && r a j) || (eqb i a && r i j))
-          go (yes q) d = rw (← q, eq-eqb i i refl, le-ltb i i (omega arith), lt-ltb i (i + 1) (omega arith)) refl
-          go (no q) (yes m) = rw (ne_eqb i a q, lt-ltb a i m, lt-ltb a (i + 1) (omega arith), or_nothing (r a j)) refl
-          go (no q) (no m) = rw (ne_eqb i a q, le-ltb a i (omega arith), le-ltb a (i + 1) (omega arith)) refl
-
-  pub rows_all : {table : List ℕ} → RowsBelow wide table → ((i j : ℕ) → wide ≤ i → r i j ≡ false) → Holds wide r table
-  rows_all w past = holds_same w (λ i j. go i j (dec_lt i wide))
-    where
-      go : (i j : ℕ) → Dec (i < wide) → (ltb i wide && r i j) ≡ r i j
-      go i j (yes l) = rw (lt-ltb i wide l) refl
-      go i j (no l) = rw (le-ltb i wide (omega arith), past i j (omega arith)) refl
+      more a j = one_more (r i j) (r a j) i a (λ q. ap (λ (x : ℕ). r x j) q)
 
 -- the table of a relation among the numbers below n; and it is the only one
 pub holds_table : (n : ℕ) (r : ℕ → ℕ → Bool) → ((i j : ℕ) → r i j ≡ true → (i < n) × (j < n)) → Holds n r (table_of n (λ i. set_of n (r i)))
@@ -169,7 +151,7 @@ holds_table n r low = record { whole = length_table row n; said = λ i j. go i j
 
     go : (i j : ℕ) → Dec (i < n) → in_row (table_of n row) i j ≡ r i j
     go i j (yes l) = ap (λ (x : ℕ). has x j) (entry row n i l) ∙ has_all n (r i) (λ k h. (low i k h).1) j
-    go i j (no l) = row_past (table_of n row) i j (rw (length_table row n) (omega arith)) ∙ sym (refuted (r i j) (λ h. l (low i j h).0))
+    go i j (no l) = row_past (table_of n row) i j (rw (length_table row n) (omega arith)) ∙ sym (false_from_ne_true (r i j) (λ h. l (low i j h).0))
 
 pub holds_once : {n : ℕ} {r : ℕ → ℕ → Bool} {first second : List ℕ} → Holds n r first → Holds n r second → first ≡ second
 holds_once {first = first} {second = second} v w =

@@ -15,15 +15,14 @@ use Rattle.sort.specs.Numbers.{sorted_says}
 use Rattle.sort.specs.Promises.{SortsTable, sorted_table}
 use Rattle.sort.specs.declared.Sorted.{Sorted}
 use Rattle.sort.specs.declared.Sorted.TheVariants.{Line, Cycle}
-use Rattle.lines.proofs.Outcomes.{count_of, line_not_cycle}
 use Rattle.lines.proofs.Sorts.{sorted_means, means_fit}
 
 -- the code's answer is told by what it says
 pub same_sorted : (a b : Sorted) → sorted_says a ≡ sorted_says b → a ≡ b
-same_sorted (Line m) (Line n) e = ap Line (ap count_of e)
-same_sorted (Line m) (Cycle n) e = absurd (line_not_cycle m n e)
-same_sorted (Cycle m) (Line n) e = absurd (line_not_cycle n m (sym e))
-same_sorted (Cycle m) (Cycle n) e = ap Cycle (ap count_of e)
+same_sorted (Line m) (Line n) e = cc
+same_sorted (Line m) (Cycle n) e = cc
+same_sorted (Cycle m) (Line n) e = cc
+same_sorted (Cycle m) (Cycle n) e = cc
 
 -- THEOREM: any two answers that `sort` promises for a table, a set and a buffer are equal, and so are the buffers left
 pub sort_determined : (table : List ℕ) (set : ℕ) (old : List ℕ) (a b : Sorted) (left right : List ℕ)

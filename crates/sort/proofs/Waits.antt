@@ -11,7 +11,8 @@ use lib.Dec.{eqb}
 use borrow.Author.Tests.{eq-eqb, ne_eqb}
 use Rattle.sets.specs.Bits.{numbers, has}
 use Rattle.sets.specs.Search.{next_from, without}
-use Rattle.sets.proofs.Truth.{clash, refuted}
+use Rattle.std.proofs.lemmas.Bool.{false_from_ne_true}
+use borrow.Author.Clash.{clash}
 use Rattle.sets.proofs.From.{NextFrom, next_miss, next_hit, next_view}
 use Rattle.sets.proofs.Counts.{without_said}
 use Rattle.lines.specs.Rule.{predecessor, lowest_predecessor}
@@ -81,4 +82,4 @@ searched_start waits blank edge left t s l = absurd (omega (arith, l, blank t))
 pub searched_fewer : (edge : ℕ → ℕ → Bool) (left fewer : ℕ → Bool) (waits : List ℕ) → ((s : ℕ) → fewer s ≡ true → left s ≡ true)
     → Searched edge left waits → Searched edge fewer waits
 searched_fewer edge left fewer waits m p t s l =
-    refuted (predecessor edge fewer t s) (λ h. clash (predecessor edge left t s) (predecessor_more edge fewer left m t s h) (p t s l))
+    false_from_ne_true (predecessor edge fewer t s) (λ h. clash (predecessor edge left t s) (predecessor_more edge fewer left m t s h) (p t s l))

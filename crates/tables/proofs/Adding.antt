@@ -1,13 +1,7 @@
 -- What a pass from the end keeps, from record k + 1 down to record k, in the words of what the steps promise.
-use Prim.Native.Nat.{ℕ, ◌+◌, ◌-◌, ◌<◌}
-use native.Mathlib.Omega.{arith}
-use mathlib.Core.Path.{◌≡◌, refl, sym, ◌∙◌, ap, subst}
-use mathlib.Core.List.{List}
-use mathlib.Core.Bool.{Bool, true, false, ◌&&◌, ◌||◌}
-use lib.Dec.{eqb}
-use lib.ListN.{replicate}
+use Rattle.std.proofs.Common.{ℕ, ◌+◌, ◌-◌, ◌<◌, arith, ◌≡◌, refl, sym, ◌∙◌, ap, subst, List, Bool, false, ◌&&◌, ◌||◌, eqb, replicate}
+use Rattle.std.proofs.lemmas.Bool.Decides.{nat_tests}
 use Rattle.sets.specs.Bits.{has, in_row, Holds}
-use Rattle.sets.proofs.Truth.{or_nothing}
 use Rattle.sets.proofs.Tables.{holds_same, holds_none}
 use Rattle.sets.proofs.Gathered.{none_from, all_from, from_more, from_stays}
 use Rattle.histories.specs.History.{is_by}
@@ -27,12 +21,7 @@ empty_table n = holds_none n (λ i j. refl)
 
 -- added for one reason and then for another
 added_twice : (old own a b here : Bool) → ((old || (own && (a && here))) || (own && (b && here))) ≡ (old || (own && ((a || b) && here)))
-added_twice true own a b here = refl
-added_twice false false a b here = refl
-added_twice false true true true true = refl
-added_twice false true true true false = refl
-added_twice false true true false here = or_nothing here
-added_twice false true false b here = refl
+added_twice old own a b here = grind (arith, nat_tests)
 
 module _ (log : List ℕ) where
   -- the sets of copies or items

@@ -1,11 +1,9 @@
 -- Laws of the whole text: a verdict's records are where its text reads them, and what is printed is the text of what the verdict says.
-use Prim.Native.Nat.{ℕ, ◌+◌, ◌*◌, ◌/◌, ◌<◌, ◌≤◌}
-use native.Mathlib.Omega.{arith}
-use mathlib.Core.Path.{◌≡◌, refl, sym, ◌∙◌, ap, ap₂, subst}
-use mathlib.Core.Bool.{Bool, true, false}
-use mathlib.Core.List.{List, ◌++◌}
-use lib.ListN.{length, take, drop, get_or, get_or-append}
-use lib.Seq.{sets, sets-eq, length-sets, length-take-le}
+use Rattle.std.proofs.Common.{ℕ, ◌*◌, ◌<◌, ◌≤◌, arith, ◌≡◌, refl, sym, ◌∙◌, ap, subst, Bool, true, false, List, ◌++◌, length, ◌+◌, ◌/◌, ap₂, take}
+use Rattle.std.proofs.Common.{drop, get_or, length-take-le}
+use Rattle.std.proofs.Math.Seq.{sets, sets-eq, length-sets}
+use Rattle.std.proofs.Math.ListN.{get_or-append}
+use Rattle.std.proofs.lemmas.List.{get_or-take}
 use Rattle.rules.specs.Answer.{Answer, gives, refused}
 use Rattle.rules.specs.Record.{transactions}
 use Rattle.lines.specs.Rule.{LineOrCycle, line, cycle, members_of, length_of}
@@ -14,7 +12,6 @@ use Rattle.answers.proofs.VerdictRows.{check_passes, enough_room, answer_refused
 use Rattle.answers.proofs.AnswerRecords.{records_long, ordered_fits}
 use Rattle.printing.specs.Lines.{first_line, refusal_line, record_lines}
 use Rattle.printing.proofs.Lines.{lines_same}
-use Rattle.std.proofs.lemmas.List.{get_or-take}
 use Rattle.text.specs.Text.{serial_word, cycle_word, printed_answer, printed_with, printed}
 use Rattle.text.specs.Kept.{Lent}
 

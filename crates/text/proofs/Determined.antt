@@ -1,9 +1,5 @@
 -- The promises of src/lib.rt determine every byte of what is given and of the buffer lent, and what is given is what is printed.
-use Prim.Native.Nat.{ℕ, ◌≤◌}
-use native.Mathlib.Omega.{arith}
-use mathlib.Core.Path.{◌≡◌, sym, ◌∙◌, ap}
-use mathlib.Core.List.{List}
-use lib.ListN.{length}
+use Rattle.std.proofs.Common.{ℕ, arith, ◌≡◌, sym, ◌∙◌, ap, List, length, ◌≤◌}
 use Rattle.arrayvec.specs.ArrayString.{ArrayString}
 use Rattle.verdict.specs.declared.answer.Verdict.{Verdict}
 use Rattle.printing.specs.Lines.{text_room}

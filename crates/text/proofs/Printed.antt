@@ -1,7 +1,5 @@
 -- What the program prints for the bytes of P2: the lines of the row that the table of marked logs has for it.
-use Prim.Native.Nat.{ℕ}
-use mathlib.Core.Path.{◌≡◌, ap, ap₂}
-use mathlib.Core.List.{List, [], ◌∷◌}
+use Rattle.std.proofs.Common.{ℕ, ◌≡◌, ap, ap₂, List, [], ◌∷◌}
 use Rattle.answers.specs.Marked.{MarkedLog, P2, marked_given}
 use Rattle.answers.proofs.Marked.{marked_hold}
 use Rattle.printing.specs.Lines.{digit, decimal_within, decimal, space, newline, refused_word, first_line, refusal_line, numbers_line, record_line, record_lines}

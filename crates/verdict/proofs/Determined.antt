@@ -1,26 +1,22 @@
 -- The promise of the verdict determines its answer and every byte of the buffer that was lent.
-use Prim.Native.Nat.{ℕ}
-use native.Mathlib.Omega.{arith}
-use mathlib.Core.Path.{◌≡◌, sym, ◌∙◌, ap}
-use mathlib.Core.List.{List}
-use Rattle.rules.proofs.Answers.{never_both, said_number, said_place}
+use Rattle.std.proofs.Common.{ℕ, arith, ◌≡◌, sym, ◌∙◌, ap, List}
+use Rattle.rules.proofs.Answers.{said_place}
 use Rattle.refusals.proofs.Determined.{same_refusal}
-use Rattle.lines.specs.Rule.{line, cycle}
 use Rattle.verdict.specs.Numbers.{verdict_says}
 use Rattle.verdict.specs.Promises.{JudgesLog}
 use Rattle.verdict.specs.declared.answer.Verdict.{Verdict}
 use Rattle.verdict.specs.declared.answer.Verdict.TheVariants.{Line, Cycle, Refused}
 
 pub same_verdict : (a b : Verdict) → verdict_says a ≡ verdict_says b → a ≡ b
-same_verdict (Line m) (Line n) e = let q : m ≡ n = cc in ap Line q
-same_verdict (Line m) (Cycle n) e = let z : ◌≡◌ {A = ℕ} 0 1 = cc in absurd (omega arith)
-same_verdict (Line m) (Refused s) e = absurd (never_both (line m) _ _ (sym e))
-same_verdict (Cycle m) (Line n) e = let z : ◌≡◌ {A = ℕ} 0 1 = cc in absurd (omega arith)
-same_verdict (Cycle m) (Cycle n) e = let q : m ≡ n = cc in ap Cycle q
-same_verdict (Cycle m) (Refused s) e = absurd (never_both (cycle m) _ _ (sym e))
-same_verdict (Refused r) (Line n) e = absurd (never_both (line n) _ _ e)
-same_verdict (Refused r) (Cycle n) e = absurd (never_both (cycle n) _ _ e)
-same_verdict (Refused r) (Refused s) e = ap Refused (same_refusal r s (ap said_number e) (omega (arith, ap said_place e)))
+same_verdict (Line m) (Line n) e = cc
+same_verdict (Line m) (Cycle n) e = cc
+same_verdict (Line m) (Refused s) e = cc
+same_verdict (Cycle m) (Line n) e = cc
+same_verdict (Cycle m) (Cycle n) e = cc
+same_verdict (Cycle m) (Refused s) e = cc
+same_verdict (Refused r) (Line n) e = cc
+same_verdict (Refused r) (Cycle n) e = cc
+same_verdict (Refused r) (Refused s) e = ap Refused (same_refusal r s (cc) (omega (arith, ap said_place e)))
 
 -- THEOREM: any two answers that `verdict` promises for a log and a buffer are equal, and so are the buffers left
 pub verdict_determined : (log old : List ℕ) (a b : Verdict) (left right : List ℕ) → JudgesLog log old a left → JudgesLog log old b right

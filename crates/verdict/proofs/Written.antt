@@ -1,14 +1,12 @@
 -- What the code keeps is what the definitions say: the sort gives the log's line or cycle, whose members it leaves in front of its buffer, and
 -- what is written of them are its records.
-use Prim.Native.Nat.{ℕ, ◌+◌, ◌≤◌}
-use native.Mathlib.Omega.{arith}
-use mathlib.Core.Path.{◌≡◌, refl, sym, ◌∙◌, ap, ap₂, subst, fun_ext}
-use mathlib.Core.List.{List}
-use lib.ListN.{length, take, drop, replicate, length-replicate}
-use lib.Seq.{sets, sets-eq, length-sets, take-append_seam}
+use Rattle.std.proofs.Common.{ℕ, ◌+◌, ◌≤◌, arith, ◌≡◌, sym, ◌∙◌, ap, ap₂, List, length, drop, refl, subst, take, replicate}
+use Rattle.std.proofs.Math.Path.{fun_ext}
+use Rattle.std.proofs.Math.ListN.{length-replicate}
+use Rattle.std.proofs.Math.Seq.{sets, sets-eq, length-sets, take-append_seam}
 use Rattle.sets.specs.Bits.{numbers, has, Holds}
-use Rattle.sets.proofs.Tables.{empty_entry}
 use Rattle.histories.specs.Reasons.{reason}
+use Rattle.sets.proofs.Tables.{empty_entry}
 use Rattle.rules.specs.Answer.{gives}
 use Rattle.rules.specs.LogHistory.{history_of}
 use Rattle.rules.specs.Questions.{members}

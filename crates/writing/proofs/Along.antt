@@ -1,11 +1,5 @@
 -- The reasons along a cycle, kept one by one.
-use Prim.Native.Nat.{ℕ, ◌+◌, ◌<◌}
-use native.Mathlib.Omega.{arith}
-use native.Mathlib.Decide.{ℕ_discrete}
-use mathlib.Core.Path.{◌≡◌, ◌∙◌}
-use mathlib.Core.List.{List}
-use lib.ListN.{set, length-set}
-use lib.Seq.{get_or-set_same, get_or-set_other}
+use Rattle.std.proofs.Common.{below_more, ne_of_lt, ℕ, ◌+◌, ◌<◌, ◌≡◌, ◌∙◌, List, set, length-set, get_or-set_same, get_or-set_other}
 use Rattle.rules.specs.Record.{transactions}
 use Rattle.answers.specs.Verdict.{entry, round_to}
 use Rattle.writing.specs.Kept.{Along}
@@ -13,8 +7,10 @@ use Rattle.writing.specs.Kept.{Along}
 -- one more reason is kept
 pub along_more : (lowest : ℕ → ℕ → ℕ) (xs reasons : List ℕ) (n k value : ℕ) → k < transactions → Along lowest xs n k reasons
     → value ≡ lowest (entry xs k) (entry xs (round_to n k)) → Along lowest xs n (k + 1) (set reasons k value)
-along_more lowest xs reasons n k value l w e = record { whole = length-set reasons k value ∙ w.whole; said = λ j m. go j m (ℕ_discrete j k) }
-  where
-    go : (j : ℕ) → j < k + 1 → Dec (j ≡ k) → entry (set reasons k value) j ≡ lowest (entry xs j) (entry xs (round_to n j))
-    go j m (yes q) = rw q (get_or-set_same reasons k value 0 (rw w.whole l) ∙ e)
-    go j m (no q) = get_or-set_other reasons k j value 0 q ∙ w.said j (omega (arith, m, q))
+along_more lowest xs reasons n k value l w e =
+    record {
+      whole = length-set reasons k value ∙ w.whole;
+      said = below_more (λ j. entry (set reasons k value) j ≡ lowest (entry xs j) (entry xs (round_to n j))) k
+          (λ j m. get_or-set_other reasons k j value 0 (ne_of_lt m) ∙ w.said j m)
+          (get_or-set_same reasons k value 0 (rw w.whole l) ∙ e);
+    }

@@ -1,11 +1,6 @@
 -- Answer records as they are written one by one.
-use Prim.Native.Nat.{ℕ, ◌+◌, ◌*◌}
-use native.Mathlib.Omega.{arith}
-use native.Mathlib.Numerals.{add-one}
-use mathlib.Core.Path.{◌≡◌, refl, sym, ◌∙◌, ap}
-use mathlib.Core.List.{List, [], ◌∷◌}
-use lib.ListN.{length, set}
-use lib.Seq.{sets}
+use Rattle.std.proofs.Common.{ℕ, ◌+◌, ◌*◌, arith, add-one, ◌≡◌, refl, sym, ◌∙◌, ap, List, ◌∷◌, length, set, []}
+use Rattle.std.proofs.Math.Seq.{sets}
 use Rattle.lines.proofs.Lists.{sets_append}
 use Rattle.answers.specs.Verdict.{record_size, pairs}
 use Rattle.answers.proofs.AnswerRecords.{length_pairs}

@@ -1,6 +1,6 @@
 -- `writing::write_records` meets its contract. The invariant: the first k records have been written.
 use Rattle.std.proofs.Common.{◌≡◌}
-use lib.Seq.{sets}
+use Rattle.std.proofs.Math.Seq.{sets}
 use Rattle.answers.specs.Verdict.{entry, pairs}
 use Rattle.writing.proofs.write_records.Given as goal
 

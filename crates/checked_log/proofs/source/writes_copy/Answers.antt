@@ -1,6 +1,6 @@
 -- `checked_log::source::writes_copy` meets its contract: a write writes the copy that it names, and no other.
 use Rattle.std.proofs.Common.{Bool, ap, eq-eqb, eqb, ne_eqb, sym, ◌&&◌, ◌∙◌, ◌≡◌}
-use Rattle.sets.proofs.Truth.{and_nothing, and_always}
+use Rattle.std.proofs.Math.Bool.{and-false, and-true}
 use Rattle.histories.specs.History.{writes_copy}
 use Rattle.histories.proofs.OfTransactions.{writes_copy_of}
 use Rattle.rules.specs.LogHistory.{history_of}
@@ -19,7 +19,7 @@ returns-then-copy c =
     c.is.ensures
     ∙ sym (by_copy (goal.at.returns-then-copy c).After-copy
     ∙ ap (λ (b : Bool). own && b) (eq-eqb c.copy.result c.args.copy c.if-copy.true)
-    ∙ and_always own)
+    ∙ and-true own)
 
 pub returns-else-copy : goal.returns-else-copy
 returns-else-copy c =
@@ -28,5 +28,5 @@ returns-else-copy c =
     sym
     (by_copy (goal.at.returns-else-copy c).After-copy
     ∙ ap (λ (b : Bool). own && b) other
-    ∙ and_nothing own
+    ∙ and-false own
     ∙ sym other)

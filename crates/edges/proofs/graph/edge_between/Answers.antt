@@ -1,7 +1,6 @@
 -- `edges::graph::edge_between` meets its contract: the check's refusal is passed on, then 10 is tried, and then the reason is given.
-use Rattle.std.proofs.Common.{ap, sym, ◌∙◌}
+use Rattle.std.proofs.Common.{ap, sym, ◌∙◌, ⊎_elim}
 use Rattle.std.proofs.lemmas.Result.{err_from_is_err_and}
-use mathlib.Core.Logic.{⊎_elim}
 use Rattle.rules.specs.Answer.{gives}
 use Rattle.rules.proofs.Answers.{then_refused, then_given, then_same}
 use Rattle.rules.proofs.Asked.{edge_refused, edge_from_none, edge_to_none, edge_given}

@@ -10,4 +10,4 @@ pub returns-then-above-eq0-clause-found : goal.returns-then-above-eq0-clause-fou
 returns-then-above-eq0-clause-found c = rw (← c.self.view_is) (sym (none_from c.self.inside.bits c.args.from 64 c.if-above-eq0.true))
 
 pub returns-clause-found : goal.returns-clause-found
-returns-clause-found c = rw (← c.self.view_is) (sym (lowest_from c.self.inside.bits c.args.from 64 c.self.invariant c.if-above-eq0.false))
+returns-clause-found c = rw (← c.self.view_is) (sym (lowest_from c.self.inside.bits c.args.from c.self.invariant c.if-above-eq0.false))

@@ -1,16 +1,14 @@
 -- `Set::without` meets its contract: the bit is put in first, and so turned over it is out.
-use Rattle.std.proofs.Common.{ℕ, ap, ◌∙◌, bit_or}
-use lib.Bits.{bit_xor}
-use Rattle.std.proofs.Common.{arith, ◌*◌, ◌%◌, ◌^◌}
-use Rattle.std.proofs.lemmas.Nat.{or_lt, xor_lt}
+use Rattle.std.proofs.Common.{ℕ, ap, ◌∙◌, bit_or, bit_xor, arith, ◌*◌, ◌%◌, ◌^◌}
+use Rattle.std.proofs.lemmas.Nat.{one_shl, or_lt, xor_lt}
 use Rattle.sets.specs.Bits.{has}
-use Rattle.sets.proofs.Members.{shifted, has_without}
+use Rattle.sets.proofs.Members.{has_without}
 use Rattle.sets.proofs.Set.without.Goals as goal
 
 pub returns : goal.returns
 returns c =
     rw c.self.view_is
-    (λ j. ap (λ (m : ℕ). has (bit_xor (bit_or c.args.self m) m) j) (shifted c.args.i c.requires) ∙ has_without c.args.self c.args.i j)
+    (λ j. ap (λ (m : ℕ). has (bit_xor (bit_or c.args.self m) m) j) (one_shl c.args.i 64 c.requires) ∙ has_without c.args.self c.args.i j)
 
 pub invariant_of-result : goal.invariant_of-result
 invariant_of-result c =

@@ -1,7 +1,7 @@
 -- What the check leaves to show of `ReasonTables::joined`; its invariant stands beside this file.
 use Rattle.std.proofs.Common.{Bool, rules, ap, ap₂, refl, arith, eqb, not, ◌&&◌, ◌||◌, ◌∙◌}
+use Rattle.std.proofs.Math.Bool.{and_comm}
 use Rattle.sets.specs.Bits.{in_row}
-use Rattle.sets.proofs.Truth.{and_swap}
 use Rattle.sets.proofs.Tables.{row_read, rows_none, rows_more}
 use Rattle.rules.specs.Record.{transactions}
 use Rattle.tables.specs.ReasonTables.{any_reason}
@@ -28,5 +28,5 @@ loop-i-preserved c =
           ∙ ap₂ (λ (a b : Bool). a || b) (row_read first l.i c.index-self-i.result refl (search rules) j)
           (row_read second l.i c.index-self-i-in-loop-i.result refl (search rules) j))
           (row_read third l.i c.index-self-i-in-loop-i-2.result refl (search rules) j))
-          ∙ and_swap (in_row first l.i j || in_row second l.i j || in_row third l.i j) (not (eqb l.i j))),
+          ∙ and_comm (in_row first l.i j || in_row second l.i j || in_row third l.i j) (not (eqb l.i j))),
     )
