@@ -23,13 +23,13 @@ same_source (Ok None) (Ok None) e = refl
 same_source (Ok None) (Err s) e = cc
 same_source (Err r) (Ok (Some t)) e = cc
 same_source (Err r) (Ok None) e = cc
-same_source (Err r) (Err s) e = ap Err (same_refusal r s cc cc)
+same_source (Err r) (Err s) e = ap Err (same_refusal r s (cc) (cc))
 
 pub same_passed : (a b : Result (List ℕ) Refusal) → passed_says a ≡ passed_says b → a ≡ b
 same_passed (Ok l) (Ok m) e = let q : l ≡ m = cc in ap Ok q
 same_passed (Ok l) (Err s) e = cc
 same_passed (Err r) (Ok m) e = cc
-same_passed (Err r) (Err s) e = ap Err (same_refusal r s cc cc)
+same_passed (Err r) (Err s) e = ap Err (same_refusal r s (cc) (cc))
 
 pub same_found : (a b : Found ℕ) → found_says a ≡ found_says b → a ≡ b
 same_found (Some e) (Some f) h = cc
