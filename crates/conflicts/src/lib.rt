@@ -56,19 +56,19 @@ impl Later {
     }
 }
 
-// The conflicts of a log, found in one pass from its end, a fixed number of steps for each record. Before it 16 KiB
-// are cleared.
-pub fn conflicts(log: &Log<'_>) -> [Set; TRANSACTIONS]
-    ensures { Holds transactions (conflict (history_of log.now)) result }
+// The conflicts of a log go into the table, whatever it held before. They are found in one pass from the log's end, a fixed number of steps for
+// each record. Before it 16 KiB are cleared.
+pub fn conflicts(log: &Log<'_>, table: &mut [Set; TRANSACTIONS])
+    ensures { Holds transactions (conflict (history_of log.now)) table.new }
 {
-    let mut table = [Set::EMPTY; TRANSACTIONS];
+    let none = [Set::EMPTY; TRANSACTIONS];
+    *table = none;
     let mut later = Later::new();
     for k in (0..log.records()).rev() {
         // The row is stored last: what was read of the two tables is then still at hand when they are stored.
         let r = log.record(k);
         let conflicting = later.conflicting(&r);
         later.keep(&r);
-        add_to_row(&r, conflicting, &mut table);
+        add_to_row(&r, conflicting, table);
     }
-    table
 }

@@ -14,31 +14,18 @@ use refusals::refusal::Refusal;
 use sets::Set;
 use tables::reasons::{Reason, ReasonTables};
 
-// The edges of a log, in a table for each reason, and the set of its transactions.
-#[derive(Drop)]
-pub struct LogEdges {
-    pub members: Set,
-    pub by_reason: ReasonTables,
-}
-
-// The edges of a log that passes. Three passes and the walks back to sources; some 18 KiB are cleared.
-pub fn edges_by_reason(passed: &Passed<'_>) -> LogEdges
-    ensures members { result.members ≡ members passed.now }
-    ensures by_reason { HoldsEdges passed.now result.by_reason }
+// The edges of a log that passes, in the table of each reason, whatever the tables held before. The result is the set of its transactions. Three
+// passes and the walks back to sources; some 18 KiB are cleared. The tables are lent all the way, since handing them out would copy them.
+pub fn edges_by_reason(passed: &Passed<'_>, tables: &mut ReasonTables) -> Set
+    ensures members { result ≡ members passed.now }
+    ensures tables_filled { HoldsEdges passed.now tables.new }
     ensures passes { Passes passed.now }
 {
     let log = passed.log();
     let order = WriteOrder::of_log(passed);
-    let by_conflict = conflicts(&log);
-    let (by_order, by_read) = order_edges(&log, &order);
-    LogEdges {
-        members: order.committed,
-        by_reason: ReasonTables {
-            by_conflict,
-            by_order,
-            by_read,
-        },
-    }
+    conflicts(&log, &mut tables.by_conflict);
+    order_edges(&log, &order, &mut tables.by_order, &mut tables.by_read);
+    order.committed
 }
 
 // The graph of any bytes: the set of its transactions, or a refusal. Its edges are in the table that was lent: bit j of number i is the
@@ -46,9 +33,11 @@ pub fn edges_by_reason(passed: &Passed<'_>) -> LogEdges
 pub fn graph_of_log(log: &[u8], table: &mut [Set; TRANSACTIONS]) -> Result<Set, Refusal>
     ensures { GivesGraph log.now table.old result table.new }
 {
-    let edges = edges_by_reason(&Passed::check(log)?); // A refusal leaves the table.
-    *table = edges.by_reason.joined();
-    Ok(edges.members)
+    let passed = Passed::check(log)?; // A refusal leaves the table.
+    let mut tables = ReasonTables::EMPTY;
+    let members = edges_by_reason(&passed, &mut tables);
+    *table = tables.joined();
+    Ok(members)
 }
 
 // The lowest reason of the edge from i to j, if there is one. Any bytes and any numbers may be asked: the log is checked first, and then
@@ -60,5 +49,7 @@ pub fn edge_between(log: &[u8], i: usize, j: usize) -> Result<Option<Reason>, Re
     if TRANSACTIONS <= i || TRANSACTIONS <= j {
         return Err(Refusal::BadQuestion);
     }
-    Ok(edges_by_reason(&passed).by_reason.lowest_reason(i, j))
+    let mut tables = ReasonTables::EMPTY;
+    edges_by_reason(&passed, &mut tables);
+    Ok(tables.lowest_reason(i, j))
 }

@@ -36,19 +36,24 @@ fn after_by_read(log: &Log<'_>, k: usize, order: &WriteOrder) -> Set
     }
 }
 
-// The edges of reason 2 and those of reason 3 of a log, found in one pass from its end. Each read costs a walk back to
-// its source, which may be as long as the log.
-pub fn order_edges(log: &Log<'_>, order: &WriteOrder) -> ([Set; TRANSACTIONS], [Set; TRANSACTIONS])
+// The edges of reason 2 and those of reason 3 of a log go into a table each, whatever these held before. They are found in one pass from the log's
+// end. Each read costs a walk back to its source, which may be as long as the log.
+pub fn order_edges(
+    log: &Log<'_>,
+    order: &WriteOrder,
+    by_order: &mut [Set; TRANSACTIONS],
+    by_read: &mut [Set; TRANSACTIONS],
+)
     requires { KeptOrder log.now order.now }
-    ensures order_holds { Holds transactions (write_order (history_of log.now)) result.0 }
-    ensures read_holds { Holds transactions (read_before (history_of log.now)) result.1 }
+    ensures order_holds { Holds transactions (write_order (history_of log.now)) by_order.new }
+    ensures read_holds { Holds transactions (read_before (history_of log.now)) by_read.new }
 {
-    let mut by_order = [Set::EMPTY; TRANSACTIONS];
-    let mut by_read = [Set::EMPTY; TRANSACTIONS];
+    let none = [Set::EMPTY; TRANSACTIONS];
+    *by_order = none;
+    *by_read = none;
     for k in (0..log.records()).rev() {
         let r = log.record(k);
-        add_to_row(&r, after_by_order(&r, order), &mut by_order);
-        add_to_row(&r, after_by_read(log, k, order), &mut by_read);
+        add_to_row(&r, after_by_order(&r, order), by_order);
+        add_to_row(&r, after_by_read(log, k, order), by_read);
     }
-    (by_order, by_read)
 }

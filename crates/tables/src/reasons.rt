@@ -33,6 +33,12 @@ pub struct ReasonTables {
 }
 
 impl ReasonTables {
+    pub const EMPTY: ReasonTables = ReasonTables {
+        by_conflict: [Set::EMPTY; TRANSACTIONS],
+        by_order: [Set::EMPTY; TRANSACTIONS],
+        by_read: [Set::EMPTY; TRANSACTIONS],
+    };
+
     ghost use Rattle.tables.specs.Numbers.{reason_says};
     ghost use Rattle.tables.specs.ReasonTables.{any_reason, lowest_in};
 

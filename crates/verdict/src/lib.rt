@@ -20,6 +20,7 @@ use edges::graph::edges_by_reason;
 use format::record::TRANSACTIONS;
 use refusals::refusal::Refusal;
 use sort::{Sorted, sort};
+use tables::reasons::ReasonTables;
 use writing::{MOST_ANSWER, reasons_along, write_records};
 
 // Numbers 1 to 9 for a log and an answer buffer of so many bytes.
@@ -40,17 +41,18 @@ fn ordered(passed: &Passed<'_>, answer: &mut [u8]) -> Verdict
     ensures says { verdict_says result ≡ how_many (gives (line_or_cycle passed.now)) }
     ensures written { answer.new ≡ sets answer.old 0 (answer_records passed.now (gives (line_or_cycle passed.now))) }
 {
-    let edges = edges_by_reason(passed);
-    let table = edges.by_reason.joined();
+    let mut tables = ReasonTables::EMPTY;
+    let set = edges_by_reason(passed, &mut tables);
+    let table = tables.joined();
     let mut members = [0u8; TRANSACTIONS];
-    match sort(&table, edges.members, &mut members) {
+    match sort(&table, set, &mut members) {
         Sorted::Line(n) => {
             write_records(&members[..n], &[0u8; TRANSACTIONS], answer);
             Verdict::Line(n)
         }
         Sorted::Cycle(n) => {
             let cycle = &members[..n];
-            let reasons = reasons_along(&edges.by_reason, cycle);
+            let reasons = reasons_along(&tables, cycle);
             write_records(cycle, &reasons, answer);
             Verdict::Cycle(n)
         }

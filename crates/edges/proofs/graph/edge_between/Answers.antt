@@ -23,6 +23,6 @@ pub returns : goal.returns
 returns c =
     let log = c.args.log.now in
     let sound = then_given _ _ _ (sym c.in_ok-passed.ensures) in
-    let holds = rw (sym (then_same _ _ _ (sym c.in_ok-passed.ensures))) at c.edges_by_reason.ensures.by_reason in
-    let reason_is = c.lowest_reason.ensures ∙ lowest_whole log c.edges_by_reason.result.by_reason holds c.args.i c.args.j in
+    let holds = rw (sym (then_same _ _ _ (sym c.in_ok-passed.ensures))) at c.edges_by_reason.ensures.tables_filled in
+    let reason_is = c.lowest_reason.ensures ∙ lowest_whole log c.edges_by_reason.new.tables holds c.args.i c.args.j in
     ap gives reason_is ∙ sym (edge_given log c.args.i c.args.j sound c.if-i-ge-TRANSACTIONS.false c.if-j-ge-TRANSACTIONS.false)
