@@ -1,12 +1,13 @@
 -- Laws of the sets of numbers below 64: a bit of 0, of a power of two, of an or and of an and; with a number added or taken out; and that
 -- sets with the same members are one number.
-use Rattle.std.proofs.Common.{ℕ, zero, suc, ◌+◌, ◌%◌, ◌^◌, ◌<◌, max, min, arith, ◌≡◌, refl, sym, ◌∙◌, ap, Bool, true, false, not, ◌&&◌, ◌||◌}
-use Rattle.std.proofs.Common.{true≢false, eqb, bit_or, bit_and, bit_xor, eq-eqb, ne_eqb}
+use Rattle.std.proofs.Common.{ℕ, zero, suc, ◌+◌, ◌*◌, ◌/◌, ◌%◌, ◌^◌, ◌<◌, max, min, arith, ◌≡◌, refl, sym, ◌∙◌, ap, Bool, true, false, not, ◌&&◌, ◌||◌}
+use Rattle.std.proofs.Common.{one-mul, shr-shr, true≢false, eqb, bit_or, bit_and, bit_xor, eq-eqb, ne_eqb}
 use Rattle.std.proofs.lemmas.Nat.Bits.{bit_at-zero, bit_at_and, bit_at_or, bit_at_xor, bit_at-pow_same, bit_at-pow_other, bit_at-lt, same_from_bits}
 use Rattle.std.proofs.lemmas.Nat.Bits.{bit_at_above}
 use Rattle.std.proofs.Math.Decide.{ℕ_discrete, dec_lt}
 use Rattle.std.proofs.lemmas.Bool.Decides.{nat_tests}
 use Rattle.std.specs.Int.{bit_at}
+use lib.Pow.{shl_exact}
 use borrow.Author.Clash.{clash}
 use Rattle.sets.specs.Bits.{numbers, has}
 
@@ -52,6 +53,15 @@ has_power i j = go (ℕ_discrete i j)
     go : Dec (i ≡ j) → has (2 ^ i) j ≡ eqb i j
     go (yes q) = rw (← q) (ap (λ (x : ℕ). eqb x 1) (bit_at-pow_same i) ∙ sym (eq-eqb i i refl))
     go (no q) = ap (λ (x : ℕ). eqb x 1) (bit_at-pow_other i j (λ e. q (sym e))) ∙ sym (ne_eqb i j q)
+
+-- 1 shifted by i, as the machine computes it
+pub shifted : (i : ℕ) → i < 64 → 1 * 2 ^ i % 2 ^ 64 ≡ 2 ^ i
+shifted i h = shl_exact {a = 1} 1 i 64 (omega arith) (omega arith) ∙ one-mul (2 ^ i)
+
+-- the set with every number one lower
+pub half_has : (x i : ℕ) → has (x / 2) i ≡ has x (suc i)
+unfolding has
+half_has x i = ap (λ (y : ℕ). eqb (y % 2) 1) (shr-shr x 1 i ∙ ap (λ (j : ℕ). x / 2 ^ j) (omega arith))
 
 -- the set with one number added
 pub has_with : (x i j : ℕ) → has (bit_or x (2 ^ i)) j ≡ (has x j || eqb i j)

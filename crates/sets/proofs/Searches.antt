@@ -1,7 +1,8 @@
 -- Laws of the searches below n, each by going through the numbers one by one: what a hit and a miss say, how to show one, and
 -- the step from n to n + 1 that a counting loop takes.
-use Rattle.std.proofs.Common.{ℕ, zero, suc, ◌+◌, ◌<◌, add-one, arith, ◌≡◌, refl, ◌∙◌, ap, subst, Bool, true, false, ◌||◌, cond, ◌⊎◌}
+use Rattle.std.proofs.Common.{ℕ, zero, suc, ◌+◌, ◌-◌, ◌<◌, ◌≤◌, add-one, arith, ◌≡◌, refl, ◌∙◌, ap, subst, Bool, true, false, ◌||◌, cond, ◌⊎◌}
 use Rattle.std.proofs.Common.{⊎_elim, below_none, below_more}
+use Rattle.std.proofs.Math.Decide.{ℕ_discrete}
 use Rattle.std.proofs.Math.Option.{Option, none, some}
 use Rattle.std.proofs.Math.Bool.{or_comm}
 use Rattle.std.proofs.lemmas.Bool.{false_from_ne_true}
@@ -23,8 +24,15 @@ module _ (p : ℕ → Bool) where
   abbrev pub None : ℕ → Type 0
   None n = (e : ℕ) → e < n → p e ≡ false
 
-  none_suc : (n : ℕ) → None n → p n ≡ false → None (suc n)
-  none_suc n h q = subst None (add-one n) (below_more (λ e. p e ≡ false) n h q)
+  pub none_zero : None zero
+  none_zero = below_none (λ e. p e ≡ false)
+
+  -- the step of a counting loop
+  pub none_more : (n : ℕ) → None n → p n ≡ false → None (n + 1)
+  none_more = below_more (λ e. p e ≡ false)
+
+  pub none_suc : (n : ℕ) → None n → p n ≡ false → None (suc n)
+  none_suc n h q = subst None (add-one n) (none_more n h q)
 
   pub some_zero : some_below zero p ≡ false
   unfolding some_below
@@ -70,7 +78,7 @@ module _ (p : ℕ → Bool) where
 
   pub first_view : (n : ℕ) → First n (first_below n p)
   unfolding first_below
-  first_view zero = first_none (below_none (λ e. p e ≡ false))
+  first_view zero = first_none none_zero
   first_view (suc n) = first_older n (first_below n p) (first_view n)
 
   pub first_miss : (n : ℕ) → None n → first_below n p ≡ none
@@ -120,7 +128,7 @@ module _ (p : ℕ → Bool) where
 
   pub last_view : (n : ℕ) → Last n (last_below n p)
   unfolding last_below
-  last_view zero = last_none (below_none (λ e. p e ≡ false))
+  last_view zero = last_none none_zero
   last_view (suc n) = last_older n (last_below n p) (p n) refl (last_view n)
 
   pub last_miss : (n : ℕ) → None n → last_below n p ≡ none
@@ -140,3 +148,11 @@ module _ (p : ℕ → Bool) where
 
   pub last_found : (n : ℕ) {k : ℕ} → last_below n p ≡ some k → Last n (some k)
   last_found n e = rw e at (last_view n)
+
+  -- the step of a walk back: none from e on passes, and the one before e does not
+  pub none_back : (e k : ℕ) → 0 < e → p (e - 1) ≡ false → ((i : ℕ) → e ≤ i → i < k → p i ≡ false) → (i : ℕ) → e - 1 ≤ i → i < k → p i ≡ false
+  none_back e k l q h i m n = go (ℕ_discrete i (e - 1))
+    where
+      go : Dec (i ≡ e - 1) → p i ≡ false
+      go (yes r) = ap p r ∙ q
+      go (no r) = h i (omega (arith, l, m, r)) n

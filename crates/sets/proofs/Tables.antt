@@ -142,6 +142,14 @@ module _ (wide : ℕ) (r : ℕ → ℕ → Bool) where
       more : (a j : ℕ) → (ltb a (i + 1) && r a j) ≡ ((ltb a i && r a j) || (eqb i a && r i j))
       more a j = one_more (r i j) (r a j) i a (λ q. ap (λ (x : ℕ). r x j) q)
 
+  -- all rows are filled, and the relation has no others
+  pub rows_all : {table : List ℕ} → RowsBelow wide table → ((i j : ℕ) → wide ≤ i → r i j ≡ false) → Holds wide r table
+  rows_all w past = holds_same w (λ i j. go i j (dec_lt i wide))
+    where
+      go : (i j : ℕ) → Dec (i < wide) → (ltb i wide && r i j) ≡ r i j
+      go i j (yes l) = rw (lt-ltb i wide l) refl
+      go i j (no l) = rw (le-ltb i wide (omega arith), past i j (omega arith)) refl
+
 -- the table of a relation among the numbers below n; and it is the only one
 pub holds_table : (n : ℕ) (r : ℕ → ℕ → Bool) → ((i j : ℕ) → r i j ≡ true → (i < n) × (j < n)) → Holds n r (table_of n (λ i. set_of n (r i)))
 holds_table n r low = record { whole = length_table row n; said = λ i j. go i j (dec_lt i n) }

@@ -10,9 +10,8 @@ use std::marker::Model;
 // How many numbers there are that a set may have: those below 64.
 pub const NUMBERS: usize = 64;
 
-// A set of numbers below 64. A clause sees it as the number of its bits, and asks `has` of that. C hands one over as a uint64_t.
-#[derive(Clone, Copy, PartialEq, Eq)]
-#[repr(C)]
+// A set of numbers below 64. A clause sees it as the number of its bits, and asks `has` of that.
+#[derive(Clone, Copy, Debug, PartialEq, Eq)]
 pub struct Set {
     bits: u64,
 }
@@ -29,6 +28,20 @@ impl Model for Set {
 
 impl Set {
     pub const EMPTY: Set = Set { bits: 0 };
+
+    // The set of these bits: any number of 64 bits is a set's.
+    pub fn of_bits(bits: u64) -> Set
+        ensures { result ≡ bits }
+    {
+        Set { bits }
+    }
+
+    // Its bits: bit i is 1 where the set has i.
+    pub fn bits(self) -> u64
+        ensures { result ≡ self }
+    {
+        self.bits
+    }
 
     // Whether the set has i.
     pub fn has(self, i: usize) -> bool
@@ -110,4 +123,15 @@ impl Set {
         }
         Some(from + above.trailing_zeros() as usize)
     }
+}
+
+// The sets of a table of numbers, each that of the bits of its number.
+pub fn sets_of_bits(table: &[u64; NUMBERS]) -> [Set; NUMBERS]
+    ensures { result ≡ table.now }
+{
+    let mut sets = [Set::EMPTY; NUMBERS];
+    for i in 0..NUMBERS {
+        sets[i] = Set::of_bits(table[i]);
+    }
+    sets
 }
