@@ -15,7 +15,7 @@ use checked_log::check::check;
 use checked_log::source::Source;
 use format::record::MOST_RECORDS;
 use refusals::refusal::Refusal;
-use sets::{NUMBERS, Set, sets_of_bits};
+use sets::{NUMBERS, Set};
 use sort::{Sorted, sort};
 use tables::reasons::Reason;
 use verdict::answer::Verdict;
@@ -217,16 +217,16 @@ pub extern "C" fn fruscalenta_edge_between(log: &[u8], i: usize, j: usize) -> Co
 }
 
 // The line or the cycle of any table of edges and any set. Its members are written to the front of the buffer; all other bytes keep their
-// content. C hands over numbers, and each is the set of its bits.
+// content. C hands over numbers: each is the set of its bits.
 #[unsafe(no_mangle)]
 pub extern "C" fn fruscalenta_sort(
-    table: &[u64; NUMBERS],
+    table: &[Set; NUMBERS],
     set: u64,
     members: &mut [u8; NUMBERS],
 ) -> CodedSorted
     ensures { SortsInC table.now set members.old result members.new }
 {
-    sort(&sets_of_bits(table), Set::of_bits(set), members).into()
+    sort(table, Set::of_bits(set), members).into()
 }
 
 // The verdict on a log. The answer records of a line or a cycle are written to the front of the buffer; all other bytes keep their content.

@@ -10,8 +10,9 @@ use std::marker::Model;
 // How many numbers there are that a set may have: those below 64.
 pub const NUMBERS: usize = 64;
 
-// A set of numbers below 64. A clause sees it as the number of its bits, and asks `has` of that.
+// A set of numbers below 64. A clause sees it as the number of its bits, and asks `has` of that. C has a uint64_t for one in a table.
 #[derive(Clone, Copy, Debug, PartialEq, Eq)]
+#[repr(C)]
 pub struct Set {
     bits: u64,
 }
@@ -123,15 +124,4 @@ impl Set {
         }
         Some(from + above.trailing_zeros() as usize)
     }
-}
-
-// The sets of a table of numbers, each that of the bits of its number.
-pub fn sets_of_bits(table: &[u64; NUMBERS]) -> [Set; NUMBERS]
-    ensures { result ≡ table.now }
-{
-    let mut sets = [Set::EMPTY; NUMBERS];
-    for i in 0..NUMBERS {
-        sets[i] = Set::of_bits(table[i]);
-    }
-    sets
 }
