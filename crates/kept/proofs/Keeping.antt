@@ -93,11 +93,12 @@ module _ (log : List ℕ) (k names : ℕ) (firsts : List ℕ) (w : KeptNames log
           go (yes q) = rw (← q, sym (w.said own) ∙ h) refl
           go (no q) = rw (ne_eqb own t q, or-false (named log t k)) refl
 
-  -- a transaction that is named for the first time
-  pub names_add : (own v : ℕ) → own ≡ transaction log k → own < transactions → has names own ≡ false
-      → ((t : ℕ) → has v t ≡ (has names t || eqb own t)) → KeptNames log (k + 1) v (set firsts own k)
+  -- a transaction that is named for the first time, at the place that the code stores
+  pub names_add : (own v : ℕ) {place : ℕ} → own ≡ transaction log k → own < transactions → has names own ≡ false
+      → ((t : ℕ) → has v t ≡ (has names t || eqb own t)) → place ≡ k → KeptNames log (k + 1) v (set firsts own place)
   unfolding named
-  names_add own v s l f h =
+  names_add own v s l f h here =
+      rw here
       record {
         whole = simp length-set w.whole;
         said = λ t. h t ∙ ap (λ (b : Bool). b || eqb own t) (w.said t) ∙ sym (more t);

@@ -1,5 +1,5 @@
 -- `Kept::keep` meets its contract: first what a write writes is kept, or a commit, and then the name.
-use Rattle.std.proofs.Common.{ap, eqb, sym, ℕ, ◌*◌, ◌∙◌}
+use Rattle.std.proofs.Common.{ap, arith, eqb, sym, ℕ, ◌*◌, ◌∙◌}
 use Rattle.histories.specs.History.{writes_copy, writes_item}
 use Rattle.histories.proofs.OfTransactions.{copy_writes, item_writes}
 use Rattle.rules.specs.LogHistory.{history_of}
@@ -70,10 +70,10 @@ returns-else-not-has-clause-commits c = (name_left (goal.at.returns-else-not-has
 -- the name, which the last lines keep
 pub returns-then-not-has-clause-names : goal.returns-then-not-has-clause-names
 returns-then-not-has-clause-names c = λ old.
-    rw c.place.ensures.place
-    (names_add c.args.r.now.log c.args.r.now.place c.if-is.self.named c.if-is.self.firsts
+    names_add c.args.r.now.log c.args.r.now.place c.if-is.self.named c.if-is.self.firsts
     ((name_left (goal.at.returns-then-not-has-clause-names c).Joined-is).names old) c.transaction-t.result
-    c.with-self-then-not-has.result c.transaction-t.ensures.value c.transaction-t.ensures.below (sym c.if-not-has.ensures) c.with-self-then-not-has.ensures)
+    c.with-self-then-not-has.result c.transaction-t.ensures.value c.transaction-t.ensures.below (sym c.if-not-has.ensures)
+    c.with-self-then-not-has.ensures (omega (arith, c.place.ensures.place))
 
 pub returns-else-not-has-clause-names : goal.returns-else-not-has-clause-names
 returns-else-not-has-clause-names c = λ old.
