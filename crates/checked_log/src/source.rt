@@ -14,7 +14,7 @@ use refusals::refusal::Refusal;
 // The source of a read: the transaction, and the place of its write record.
 #[derive(Clone, Copy, Debug, PartialEq, Eq)]
 pub struct Source {
-    pub transaction: usize,
+    pub transaction: u8,
     pub place: usize,
 }
 
@@ -50,7 +50,7 @@ pub fn source_of_record(log: &[u8], k: usize) -> Result<Option<Source>, Refusal>
     }
     match source_record(&log, k) {
         Some(e) => Ok(Some(Source {
-            transaction: log.record(e).transaction(),
+            transaction: log.record(e).transaction() as u8,
             place: e,
         })),
         None => Ok(None),

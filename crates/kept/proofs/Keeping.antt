@@ -19,7 +19,7 @@ use Rattle.histories.proofs.OfTransactions.{by_is, own_added, none_added, copy_s
 use Rattle.rules.specs.LogHistory.{named, history_of}
 use Rattle.rules.specs.Record.{transactions, items, sites, kind, transaction, is_write, is_commit, write_kind, commit_kind}
 use Rattle.kept.specs.declared.Kept.{Kept}
-use Rattle.kept.specs.Kept.{KeptWriters, KeptCopies, KeptItems, KeptCommits, KeptNames, KeptBefore}
+use Rattle.kept.specs.Kept.{KeptWriters, KeptCopies, KeptItems, KeptCommits, KeptNames}
 
 module _ (log : List ℕ) (writes : ℕ → ℕ → Bool) (wide : ℕ) where
   abbrev says_writer : ℕ → ℕ → ℕ → Bool
@@ -93,11 +93,12 @@ module _ (log : List ℕ) (k names : ℕ) (firsts : List ℕ) (w : KeptNames log
           go (yes q) = rw (← q, sym (w.said own) ∙ h) refl
           go (no q) = rw (ne_eqb own t q, or-false (named log t k)) refl
 
-  -- a transaction that is named for the first time
-  pub names_add : (own v : ℕ) → own ≡ transaction log k → own < transactions → has names own ≡ false
-      → ((t : ℕ) → has v t ≡ (has names t || eqb own t)) → KeptNames log (k + 1) v (set firsts own k)
+  -- a transaction that is named for the first time, at the place that the code stores
+  pub names_add : (own v : ℕ) {place : ℕ} → own ≡ transaction log k → own < transactions → has names own ≡ false
+      → ((t : ℕ) → has v t ≡ (has names t || eqb own t)) → place ≡ k → KeptNames log (k + 1) v (set firsts own place)
   unfolding named
-  names_add own v s l f h =
+  names_add own v s l f h here =
+      rw here
       record {
         whole = simp length-set w.whole;
         said = λ t. h t ∙ ap (λ (b : Bool). b || eqb own t) (w.said t) ∙ sym (more t);
@@ -120,17 +121,17 @@ module _ (log : List ℕ) (k names : ℕ) (firsts : List ℕ) (w : KeptNames log
           older : named log t k ≡ true
           older = sym (more t ∙ ap (λ (b : Bool). named log t k || b) (ne_eqb own t (λ r. e (sym r))) ∙ or-false (named log t k)) ∙ q
 
--- in the midst of record k: all of it is kept but its name
-pub record NameLeft (log : List ℕ) (k : ℕ) (kept : Kept) : Type 0 where
-  pub copies : KeptCopies log (k + 1) kept.copy_writers
-  pub items : KeptItems log (k + 1) kept.item_writers
-  pub names : KeptNames log k kept.named kept.firsts
-  pub commits : KeptCommits log (k + 1) kept.committed
+-- in the midst of record k: what was kept before it is kept with it, each for itself; only its name is still to come
+pub record NameLeft (log : List ℕ) (k : ℕ) (old kept : Kept) : Type 0 where
+  pub copies : KeptCopies log k old.copy_writers → KeptCopies log (k + 1) kept.copy_writers
+  pub items : KeptItems log k old.item_writers → KeptItems log (k + 1) kept.item_writers
+  pub names : KeptNames log k old.named old.firsts → KeptNames log k kept.named kept.firsts
+  pub commits : KeptCommits log k old.committed → KeptCommits log (k + 1) kept.committed
 
 -- a record that is no write leaves the writers as they are
-module _ (log : List ℕ) (k : ℕ) (kept : Kept) (w : KeptBefore log k kept) (silent : is_write log k ≡ false) where
-  pub same_copies : KeptCopies log (k + 1) kept.copy_writers
-  same_copies = writers_stay log (writes_copy (history_of log)) (items * sites) k kept.copy_writers w.copies (copy_silent (history_of log) k silent)
+module _ (log : List ℕ) (k : ℕ) (table : List ℕ) (silent : is_write log k ≡ false) where
+  pub same_copies : KeptCopies log k table → KeptCopies log (k + 1) table
+  same_copies w = writers_stay log (writes_copy (history_of log)) (items * sites) k table w (copy_silent (history_of log) k silent)
 
-  pub same_items : KeptItems log (k + 1) kept.item_writers
-  same_items = writers_stay log (writes_item (history_of log)) items k kept.item_writers w.items (item_silent (history_of log) k silent)
+  pub same_items : KeptItems log k table → KeptItems log (k + 1) table
+  same_items w = writers_stay log (writes_item (history_of log)) items k table w (item_silent (history_of log) k silent)

@@ -7,7 +7,7 @@ ghost use Rattle.rules.specs.Refusals.{read_rows, history_rows, end_rows};
 ghost use Rattle.rules.specs.Rows.{answer_of};
 ghost use Rattle.rules.specs.LogHistory.{history_of};
 ghost use Rattle.refusals.specs.Numbers.{checked_says};
-ghost use Rattle.kept.specs.Kept.{KeptBefore};
+ghost use Rattle.kept.specs.Kept.{KeptCopies, KeptItems, KeptCommits, KeptNames, KeptBefore};
 
 use format::kind::Kind;
 use format::record::{Copy, Record, TRANSACTIONS};
@@ -15,14 +15,14 @@ use refusals::refusal::Refusal;
 use sets::Set;
 
 // For each copy and each item the set of its writers, the transactions that are named with the first record of each, and those that
-// have committed.
+// have committed. Each is kept for itself: a question asks that those are right at which it looks, so whoever has only these may ask it.
 #[derive(Drop)]
 pub struct Kept {
-    copy_writers: [Set; Copy::COPIES],
-    item_writers: [Set; Copy::ITEMS],
-    named: Set,
-    firsts: [usize; TRANSACTIONS],
-    committed: Set,
+    pub copy_writers: [Set; Copy::COPIES],
+    pub item_writers: [Set; Copy::ITEMS],
+    pub named: Set,
+    pub firsts: [usize; TRANSACTIONS],
+    pub committed: Set,
 }
 
 impl Kept {
@@ -42,7 +42,9 @@ impl Kept {
     // Numbers 6 to 8 at a record, which is of right form.
     #[tactic(auto, using(crate::proofs::TestsKept::refuses_6, crate::proofs::TestsKept::not_6, rules::proofs::Table::other_passes))]
     pub fn history_answer(&self, r: &Record<'_>) -> Result<(), Refusal>
-        requires { KeptBefore r.now.log r.now.place self.now }
+        requires copies { KeptCopies r.now.log r.now.place self.now.copy_writers }
+        requires items { KeptItems r.now.log r.now.place self.now.item_writers }
+        requires commits { KeptCommits r.now.log r.now.place self.now.committed }
         ensures { checked_says result ≡ answer_of (history_rows (history_of r.now.log) r.now.place) }
     {
         if self.committed.has(r.transaction()) {
@@ -58,7 +60,8 @@ impl Kept {
     #[tactic(auto, using(crate::proofs::TestsKept::refuses_7, crate::proofs::TestsKept::refuses_8, crate::proofs::TestsKept::passes_own, crate::proofs::TestsKept::passes_others))]
     fn read_answer(&self, r: &Record<'_>) -> Result<(), Refusal>
         requires reads { is_read r.now.log r.now.place ≡ true }
-        requires kept { KeptBefore r.now.log r.now.place self.now }
+        requires copies { KeptCopies r.now.log r.now.place self.now.copy_writers }
+        requires items { KeptItems r.now.log r.now.place self.now.item_writers }
         ensures { checked_says result ≡ answer_of (read_rows (history_of r.now.log) r.now.place) }
     {
         let t = r.transaction();
@@ -72,11 +75,17 @@ impl Kept {
         Ok(())
     }
 
-    // Keeps a record. Its kind comes first, since numbers 7 and 8 have just asked for the same: a branch is foretold better right behind one
-    // that asks the same.
+    // Keeps a record: each of the four that was right of the records before it is right with it. Its kind comes first, since numbers 7 and 8
+    // have just asked for the same: a branch is foretold better right behind one that asks the same.
     pub fn keep(&mut self, r: &Record<'_>)
-        requires { KeptBefore r.now.log r.now.place self.old }
-        ensures { KeptBefore r.now.log (r.now.place + 1) self.new }
+        ensures copies { KeptCopies r.now.log r.now.place self.old.copy_writers
+            → KeptCopies r.now.log (r.now.place + 1) self.new.copy_writers }
+        ensures items { KeptItems r.now.log r.now.place self.old.item_writers
+            → KeptItems r.now.log (r.now.place + 1) self.new.item_writers }
+        ensures names { KeptNames r.now.log r.now.place self.old.named self.old.firsts
+            → KeptNames r.now.log (r.now.place + 1) self.new.named self.new.firsts }
+        ensures commits { KeptCommits r.now.log r.now.place self.old.committed
+            → KeptCommits r.now.log (r.now.place + 1) self.new.committed }
     {
         let t = r.transaction();
         if r.is(Kind::Write) {
@@ -94,9 +103,10 @@ impl Kept {
     }
 
     // Number 9, where what is kept is that of a whole log: the lowest-numbered transaction that is named and has not committed.
-    #[tactic(auto, using(crate::proofs::EndKept::next_there, crate::proofs::EndKept::refuses_9, crate::proofs::EndKept::all_commit))]
+    #[tactic(auto, using(crate::proofs::EndKept::next_there))]
     pub fn end_answer(&self) -> Result<(), Refusal>
-        ensures { (log : List ℕ) → KeptBefore log (records log) self.now → checked_says result ≡ answer_of (end_rows log) }
+        ensures { (log : List ℕ) → KeptNames log (records log) self.now.named self.now.firsts
+            → KeptCommits log (records log) self.now.committed → checked_says result ≡ answer_of (end_rows log) }
     {
         match self.named.minus(self.committed).next_from(0) {
             Some(t) => Err(Refusal::NeverCommits(self.firsts[t])),

@@ -17,7 +17,7 @@ use Rattle.rules.proofs.PassedLogs.{in_log_hit}
 use Rattle.tables.specs.Kept.{LaterRows}
 use Rattle.tables.proofs.Adding.{sets_whole, rows_whole}
 use Rattle.orders.specs.declared.order.WriteOrder.{WriteOrder}
-use Rattle.orders.specs.Kept.{LaterItemWriters, LaterCommits, is_earlier_commit, KeptFrom, KeptOrder}
+use Rattle.orders.specs.Kept.{LaterItemWriters, LaterCommits, is_earlier_commit, LaterOrders, KeptOrder}
 
 module _ (log : List ℕ) where
   abbrev says_commit : ℕ → ℕ → Bool
@@ -65,12 +65,12 @@ module _ (log : List ℕ) where
             before_hit (history_of log) t (is_commit log) (records log) c.at v.there v.own v.passes
 
     -- .. and nobody does twice
-    pub order_whole : {order : WriteOrder} → KeptFrom log 0 order → KeptOrder log order
+    pub order_whole : {order : WriteOrder} → LaterItemWriters log 0 order.writers → LaterOrders log 0 order.after → KeptOrder log order
     unfolding is_earlier_commit
-    order_whole w =
-        let whole = rows_whole log (is_earlier_commit log) w.orders in
+    order_whole v w =
+        let whole = rows_whole log (is_earlier_commit log) w in
         record {
-          item_writers = items_whole w.writers;
+          item_writers = items_whole v;
           whole = whole.whole;
           in_order = λ x s j. whole.said s j ∙ order_by_commits (history_of log) sound.commits_once x s j;
         }

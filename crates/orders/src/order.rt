@@ -13,11 +13,12 @@ use sets::Set;
 use tables::add::{add_to_row, add_writer};
 
 // For each item the transactions that write it, and for each transaction those that commit after it. The writers of an item come in the
-// order of their commits. Beside them stand all that commit: of a whole log these are its transactions.
+// order of their commits. Beside them stand all that commit: of a whole log these are its transactions. Whoever has a log's write orders from
+// elsewhere may put them together: reasons 2 and 3 look at the writers and at who comes after whom.
 #[derive(Drop)]
 pub struct WriteOrder {
-    writers: [Set; Copy::ITEMS],
-    after: [Set; TRANSACTIONS],
+    pub writers: [Set; Copy::ITEMS],
+    pub after: [Set; TRANSACTIONS],
     pub committed: Set,
 }
 

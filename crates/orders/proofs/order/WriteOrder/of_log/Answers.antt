@@ -16,7 +16,8 @@ all_kept c =
 
 pub returns-clause-kept_order : goal.returns-clause-kept_order
 returns-clause-kept_order c =
-    order_whole c.args.log.now c.log-log.ensures.passes (all_kept (goal.at.returns-clause-kept_order c).After-loop-k)
+    let kept = all_kept (goal.at.returns-clause-kept_order c).After-loop-k in
+    order_whole c.args.log.now c.log-log.ensures.passes kept.writers kept.orders
 
 pub returns-clause-members : goal.returns-clause-members
 returns-clause-members c =
