@@ -24,5 +24,9 @@ number_short n l = rw (printed_by_std n l) (length-decimal-le 20 n (omega arith)
 pub byte_short : (n : ℕ) → n < 256 → length (decimal n) ≤ 3
 byte_short n l = rw (printed_by_std n (omega (arith, l))) (length-decimal-le 3 n (omega arith) (omega (arith, l)) (omega (arith, l)))
 
+-- a byte is a number of 64 bits
+pub byte_wide : {n : ℕ} → n < 256 → n < 2 ^ 64
+byte_wide l = omega (arith, l)
+
 -- how long a line is whose parts are known
 pub ruleset lengths = (length-append, number_short)

@@ -1,4 +1,5 @@
 pub mod Decimals
 pub mod Lines
 mod Records
+mod Fronts
 pub mod Determined

@@ -1,5 +1,5 @@
 -- Laws of a text's lines: how long they are, that the records' lines are put one after another, and that they read only the records.
-use Rattle.std.proofs.Common.{ℕ, zero, suc, ◌+◌, ◌*◌, ◌<◌, ◌≤◌, arith, add-one, ◌≡◌, refl, ap, ap₂, Bool, true, false, List, ◌++◌, length}
+use Rattle.std.proofs.Common.{ℕ, zero, suc, ◌+◌, ◌*◌, ◌<◌, ◌≤◌, arith, add-one, ◌≡◌, refl, ap, ap₂, Bool, true, false, List, [], ◌++◌, length}
 use Rattle.std.proofs.Common.{length-append}
 use Rattle.answers.specs.Verdict.{record_size, entry}
 use Rattle.printing.specs.Lines.{space, newline, numbers_line, record_line, record_lines, record_room}
@@ -12,6 +12,11 @@ record_short true t r l m = simp length-append (omega (arith, byte_short t l, by
 record_short false t r l m = simp length-append (omega (arith, byte_short t l))
 
 module _ (reasons : Bool) (answer : List ℕ) where
+  -- no record has no line
+  pub lines_none : [] ≡ record_lines reasons answer 0
+  unfolding record_lines
+  lines_none = refl
+
   -- one more record's line
   pub lines_more : (k : ℕ) → record_lines reasons answer (k + 1)
       ≡ record_lines reasons answer k ++ record_line reasons (entry answer (k * record_size)) (entry answer (k * record_size + 1))

@@ -5,9 +5,9 @@ ghost use Rattle.rules.specs.Record.{transactions};
 ghost use Rattle.answers.specs.Verdict.{record_size};
 ghost use Rattle.printing.specs.Lines.{text_room, first_room, record_room, decimal, first_line, refusal_line, numbers_line, record_line, record_lines};
 ghost use Rattle.printing.specs.Columns.{with_reasons};
-ghost use Rattle.printing.specs.Kept.{Put};
+ghost use Rattle.printing.specs.Kept.{Put, PutInFront};
 
-use crate::room::{Line, Text};
+use crate::room::{Line, TEXT, Text};
 use itoa::Buffer;
 use writing::RECORD_SIZE;
 
@@ -31,6 +31,21 @@ pub fn first_line(word: &str, n: usize) -> Line
     push_decimal(&mut line, n as u64);
     line.push_str("\n");
     line
+}
+
+// The first line for a word of any bytes, where `first_line` takes only text. The line is put into the front of the bytes that are lent, and the
+// result is the place behind it.
+#[tactic(auto, using(crate::proofs::Decimals::lengths), unfolding(crate::specs::Lines::first_line, crate::specs::Lines::space, crate::specs::Lines::newline))]
+pub fn put_first(word: &[u8], n: usize, text: &mut [u8; TEXT]) -> usize
+    requires { length word.now ≤ 8 }
+    ensures put { PutInFront text.old (first_line word.now n) text.new result }
+    ensures fits { result ≤ first_room }
+{
+    let rest = first_line("", n); // what stands behind the word
+    let end = word.len() + rest.len();
+    text[..word.len()].copy_from_slice(word);
+    text[word.len()..end].copy_from_slice(rest.as_bytes());
+    end
 }
 
 // The line of a refusal.

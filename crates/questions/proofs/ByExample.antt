@@ -67,6 +67,8 @@ pub record QuestionsTold : Type 0 where
   from_3_to_5 : printed_asked (1 ∷ 3 ∷ 0 ∷ 5 ∷ 0 ∷ P9) ≡ 48 ∷ 10 ∷ []
   -- the empty log is a log, and has no edge
   of_the_empty_log : printed_asked (1 ∷ 0 ∷ 0 ∷ 1 ∷ 0 ∷ []) ≡ 48 ∷ 10 ∷ []
+  -- four bytes are no question
+  not_whole : printed_asked (0 ∷ 1 ∷ 0 ∷ 0 ∷ []) ≡ []
 
 pub questions_told : QuestionsTold
 unfolding some_below some_from first_below last_below is_by uses uses_copy writes_copy writes_item some_before some_of some_after
@@ -77,4 +79,4 @@ unfolding some_below some_from first_below last_below is_by uses uses_copy write
     never_commits first_record check_answer source_answer edge_answer digit decimal_within decimal space newline refused_word
     numbers_line refusal_line none_word source_line edge_line printed_source printed_edge number_at printed_asked
 questions_told =
-    record { of_a_read = refl; from_5_to_3 = refl; from_3_to_5 = refl; of_the_empty_log = refl }
+    record { of_a_read = refl; from_5_to_3 = refl; from_3_to_5 = refl; of_the_empty_log = refl; not_whole = refl }

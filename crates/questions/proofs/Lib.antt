@@ -1,2 +1,4 @@
 pub mod ByExample
+pub mod Printed
+pub mod Asks
 pub mod Determined

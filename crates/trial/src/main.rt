@@ -29,24 +29,24 @@ struct Stored<'a> {
 // Where a read fails, what was read before it is judged.
 fn main(rt: HostRuntime) {
     let mut stack = cleared::<MOST_STACK>();
+    prove_eq!(stack.len(), 65536); // so much of a stack is read, and a longer one is cut off there
     let n = read_input(&mut rt.stdin(), &mut stack).unwrap_or_else(|failed| failed.count);
     run(&rt, &stack[..n], &mut [0; MOST_ROOM]);
 }
 
 // Judges the logs of a stack in turn. They share the answer buffer, so that each finds in it what the one before has left.
 fn run(rt: &impl Print, mut stack: &[u8], answer: &mut [u8]) {
-    for k in 0u64.. {
-        if stack.is_empty() {
-            break;
-        }
+    let mut k: u64 = 0;
+    'logs: while !stack.is_empty() {
         let Some(stored) = first_log(stack) else {
             let _ = println!(rt; "trial: the stack ends inside log {k}");
-            break;
+            break 'logs;
         };
         let _ = println!(rt; "log {k}");
         let room = stored.room.min(answer.len());
         print_answer(rt, stored.log, &mut answer[..room]);
         stack = stored.rest;
+        k += 1;
     }
 }
 
