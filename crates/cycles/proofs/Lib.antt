@@ -1,3 +1,4 @@
 pub mod Parts
 pub mod WalkLoop
 pub mod CycleWritten
+pub mod BufferParts

@@ -113,17 +113,17 @@ module _ {n : ℕ} {waits : List ℕ} {first : ℕ} {path : List ℕ} {at seen a
 
   -- one comes again: of the path, cut out of the buffer, the part up to it is the walk
   module _ (old : has seen again ≡ true) where
+    pub comes_again : among (drop at path) again ≡ true
+    comes_again = sym (w.seen_are again) ∙ old
+
     abbrev cut : List ℕ
     cut = take (n - at) (drop at path)
 
     is_cut : cut ≡ drop at path
     is_cut = between_to_end path at n (omega (arith, w.whole))
 
-    comes_again : among cut again ≡ true
-    comes_again = ap (λ (xs : List ℕ). among xs again) is_cut ∙ sym (w.seen_are again) ∙ old
-
     pub last_inside : place_of again cut < length cut
-    last_inside = place_low again cut comes_again
+    last_inside = place_low again cut (ap (λ (xs : List ℕ). among xs again) is_cut ∙ comes_again)
 
     pub cut_low : length cut ≤ n
     cut_low = omega (arith, ap length is_cut, length-drop at path, w.whole)
@@ -132,5 +132,5 @@ module _ {n : ℕ} {waits : List ℕ} {first : ℕ} {path : List ℕ} {at seen a
     walk_done last e =
         ap (λ (k : ℕ). take k cut) (add-one last ∙ ap suc e)
         ∙ ap (up_to again) is_cut
-        ∙ sym (came true (sym (w.seen_are again) ∙ old))
+        ∙ sym (came true comes_again)
         ∙ w.same_walk

@@ -61,6 +61,15 @@ module _ (h : History) (e : ℕ) where
   unfolding uses_copy
   write_then_use f w u q = conflicts_with_write w f ∙ rw (u, eq-eqb (h.copy f) (h.copy e) q) refl
 
+  pub use_then_write : (f : ℕ) → uses h e ≡ true → h.is_write f ≡ true → h.copy f ≡ h.copy e → conflicting h e f ≡ true
+  unfolding conflicting on_same_copy uses_copy uses
+  use_then_write f u w q =
+      rw (eq-eqb (h.copy e) (h.copy e) refl, eq-eqb (h.copy f) (h.copy e) q, w)
+      (either_way (h.is_read e) (h.is_write e) (h.is_read f) u)
+    where
+      either_way : (r v s : Bool) → (r || v) ≡ true → ((((r || v) && true) && ((s || true) && true)) && (v || true)) ≡ true
+      either_way r v s t = rw (t, or_right s true refl, or_right v true refl) refl
+
   -- two records in conflict are one for their transactions
   pub conflict_hit : (f : ℕ) → e < f → f < h.size → conflicting h e f ≡ true → conflict h (h.transaction e) (h.transaction f) ≡ true
   unfolding conflict gives_conflict

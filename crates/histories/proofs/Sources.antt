@@ -4,7 +4,7 @@ use Rattle.std.proofs.Math.Option.{Option, none, some, map}
 use Rattle.std.proofs.lemmas.Bool.{and_from, and_parts}
 use Rattle.sets.specs.Search.{last_below}
 use borrow.Author.Clash.{clash}
-use Rattle.sets.proofs.Searches.{Last, last_none, last_some, last_hit, last_found, last_view, some_none}
+use Rattle.sets.proofs.Searches.{Last, last_none, last_some, last_hit, last_miss, last_found, last_view, some_none}
 use Rattle.histories.specs.History.{History, writes_copy}
 use Rattle.histories.specs.Source.{Source, shows, is_written, source_record, write_record, source, writer_behind}
 use Rattle.histories.proofs.OfTransactions.{WritesCopy, writes_copy_found}
@@ -27,6 +27,10 @@ module _ (h : History) (k : ℕ) where
       → source_record h k ≡ some e
   unfolding source_record
   source_hit r e l f w = rw r (last_hit (shows h k) k e l f w)
+
+  pub source_missing : h.is_read k ≡ true → ((i : ℕ) → i < k → shows h k i ≡ false) → source_record h k ≡ none
+  unfolding source_record
+  source_missing r f = rw r (last_miss (shows h k) k f)
 
   -- what a source record is
   pub record Sourced (e : ℕ) : Type 0 where

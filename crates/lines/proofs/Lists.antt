@@ -1,6 +1,6 @@
 -- Laws of lists of numbers: what is among them, the place of a number, none twice, and that numbers of a set without one twice are no
 -- more than the set has; and lists that are written one after the other.
-use Rattle.std.proofs.Common.{ℕ, suc, ◌+◌, ◌<◌, ◌≤◌, arith, ◌≡◌, refl, sym, ◌∙◌, ap, Bool, true, false, ◌||◌, ◌⊎◌, inl, inr, ⊎_elim, List, ◌∷◌, ◌++◌}
+use Rattle.std.proofs.Common.{ℕ, zero, suc, ◌+◌, ◌<◌, ◌≤◌, arith, ◌≡◌, refl, sym, ◌∙◌, ap, subst, Bool, true, false, ◌||◌, ◌⊎◌, inl, inr, ⊎_elim, List, ◌∷◌, ◌++◌}
 use Rattle.std.proofs.Common.{eqb, length, take, get_or, set, length-append, eq-eqb, ne_eqb, eqb-true, []}
 use Rattle.std.proofs.Math.Decide.{ℕ_discrete}
 use Rattle.std.proofs.Math.Bool.{or_assoc}
@@ -94,6 +94,10 @@ pub record UpTo (s : ℕ) (xs : List ℕ) : Type 0 where
   pub part : up_to s xs ≡ before ++ s ∷ []
   pub place : place_of s xs ≡ length before
 
+pub place_nil : (s : ℕ) → place_of s [] ≡ 0
+unfolding place_of
+place_nil s = refl
+
 pub place_same : (x : ℕ) (xs : List ℕ) (s : ℕ) → x ≡ s → place_of s (x ∷ xs) ≡ 0
 unfolding place_of
 place_same x xs s q = rw (eq-eqb x s q) refl
@@ -136,6 +140,23 @@ place_entry s xs h =
     ap (λ (k : ℕ). get_or xs k 0) u.place
     ∙ ap (λ (ys : List ℕ). get_or ys (length u.before) 0) u.whole
     ∙ get_or-append_seam u.before s u.after 0
+
+-- a place where s stands, and no s before it
+pub place_is : (s : ℕ) (xs : List ℕ) (k : ℕ) → k < length xs → get_or xs k 0 ≡ s → ((j : ℕ) → j < k → get_or xs j 0 ≡ s → ⊥) → place_of s xs ≡ k
+place_is s [] k l e h = absurd (omega arith)
+place_is s (x ∷ xs) zero l e h = place_same x xs s e
+place_is s (x ∷ xs) (suc k) l e h =
+    place_other x xs s (h 0 (omega arith)) ∙ ap suc (place_is s xs k (omega (arith, l)) e (λ j m. h (suc j) (omega (arith, m))))
+
+-- no s stands before it
+pub place_before : (s : ℕ) (xs : List ℕ) (j : ℕ) → j < place_of s xs → get_or xs j 0 ≡ s → ⊥
+place_before s [] j l e = omega (arith, subst (λ (k : ℕ). j < k) (place_nil s) l)
+place_before s (x ∷ xs) j l e = go (ℕ_discrete x s) j l e (λ i. place_before s xs i)
+  where
+    go : Dec (x ≡ s) → (j : ℕ) → j < place_of s (x ∷ xs) → get_or (x ∷ xs) j 0 ≡ s → ((i : ℕ) → i < place_of s xs → get_or xs i 0 ≡ s → ⊥) → ⊥
+    go (yes q) j l e ih = omega (arith, subst (λ (k : ℕ). j < k) (place_same x xs s q) l)
+    go (no q) zero l e ih = q e
+    go (no q) (suc i) l e ih = ih i (omega (arith, subst (λ (k : ℕ). suc i < k) (place_other x xs s q) l)) e
 
 -- an entry is among the list
 pub among_entry : (xs : List ℕ) (k : ℕ) → k < length xs → among xs (get_or xs k 0) ≡ true

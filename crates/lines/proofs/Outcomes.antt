@@ -7,6 +7,10 @@ abbrev pub count_of : LineOrCycle ℕ → ℕ
 count_of (line n) = n
 count_of (cycle n) = n
 
+-- a line is no cycle
+pub line_not_cycle : (m n : ℕ) → line m ≡ cycle n → ⊥
+line_not_cycle m n e = cc
+
 -- what has the length of a line is one, and so for a cycle
 pub record IsLine (n : ℕ) (o : LineOrCycle (List ℕ)) : Type 0 where
   pub is_one : o ≡ line (members_of o)

@@ -6,8 +6,8 @@ use Rattle.std.proofs.Math.Bool.{or_comm}
 use borrow.Author.Clash.{clash}
 use Rattle.lines.specs.Rule.{among, place_of, lowest_member, turned, to_lowest}
 use Rattle.lines.specs.Lines.{FromLowest}
-use Rattle.lines.proofs.Lists.{among_nil, among_first, among_later, among_cases, among_append}
-use Rattle.lines.proofs.Lists.{place_low, place_entry}
+use Rattle.lines.proofs.Lists.{among_nil, among_first, among_later, among_cases, among_append, among_entry}
+use Rattle.lines.proofs.Lists.{place_low, place_entry, place_is}
 
 -- the lowest number of a list is in it, and nothing in it is below
 pub lowest_member_among : (x : ℕ) (xs : List ℕ) → among (x ∷ xs) (lowest_member (x ∷ xs)) ≡ true
@@ -68,6 +68,23 @@ module _ (xs : List ℕ) where
             after_first t a =
                 ap (λ (zs : List ℕ). among zs t) (turned_starts k l)
                 ∙ among_later (get_or xs k 0) (drop (suc k) xs ++ take k xs) t a
+
+-- the place of the lowest: nothing is lower, and nothing before it is as low
+pub lowest_place_is : (xs : List ℕ) (k : ℕ) → k < length xs → ((j : ℕ) → j < length xs → get_or xs k 0 ≤ get_or xs j 0)
+    → ((j : ℕ) → j < k → get_or xs k 0 < get_or xs j 0) → place_of (lowest_member xs) xs ≡ k
+lowest_place_is xs k l f g = place_is (lowest_member xs) xs k l same (λ j m e. omega (arith, g j m, e, same))
+  where
+    there : among xs (lowest_member xs) ≡ true
+    there = lowest_member_in xs (omega (arith, l))
+
+    same : get_or xs k 0 ≡ lowest_member xs
+    same =
+        omega (
+          arith,
+          lowest_member_low xs (get_or xs k 0) (among_entry xs k l),
+          f (place_of (lowest_member xs) xs) (place_low (lowest_member xs) xs there),
+          place_entry (lowest_member xs) xs there,
+        )
 
 -- a turned list is as long
 pub length_turned : (xs : List ℕ) (p : ℕ) → p ≤ length xs → length (turned p xs) ≡ length xs

@@ -28,6 +28,19 @@ known BadQuestion = refl
 pub same_refusal : (r s : Refusal) → number_of r ≡ number_of s → place_of r ≡ place_of s → r ≡ s
 same_refusal r s n p = sym (known r) ∙ ap₂ refusal_of n p ∙ known s
 
+-- no refusal has number 0: the law behind the words of the C header, "where number is 0 nothing was refused"
+pub no_zero : (r : Refusal) → number_of r ≡ 0 → ⊥
+no_zero TooLong e = cc
+no_zero Ragged e = cc
+no_zero ShortBuffer e = cc
+no_zero (BadKind k) e = cc
+no_zero (OutOfRange k) e = cc
+no_zero (AfterCommit k) e = cc
+no_zero (ReadsUnwritten k) e = cc
+no_zero (ReadsPastOwn k) e = cc
+no_zero (NeverCommits k) e = cc
+no_zero BadQuestion e = cc
+
 pub same_checked : (a b : Result (Unit {0}) Refusal) → checked_says a ≡ checked_says b → a ≡ b
 same_checked (Ok x) (Ok y) e = refl
 same_checked (Ok x) (Err s) e = cc

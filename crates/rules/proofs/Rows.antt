@@ -116,6 +116,13 @@ module _ (a b : List Row) where
   pub none_both : NoneOf a → NoneOf b → NoneOf (a ++ b)
   none_both v w = (passes_exactly (a ++ b)).0 (append_passed ((passes_exactly a).1 v) ∙ (passes_exactly b).1 w)
 
+  -- the first of both: the first of the first, or that of the second where the first has none
+  pub first_left : (n p : ℕ) → FirstOf a n p → FirstOf (a ++ b) n p
+  first_left n p w = (given_exactly (a ++ b) n p).0 (append_refused n p ((given_exactly a n p).1 w))
+
+  pub first_right : (n p : ℕ) → NoneOf a → FirstOf b n p → FirstOf (a ++ b) n p
+  first_right n p v w = (given_exactly (a ++ b) n p).0 (append_passed ((passes_exactly a).1 v) ∙ (given_exactly b n p).1 w)
+
   pub first_cases : (n p : ℕ) → FirstOf (a ++ b) n p → FirstOf a n p ⊎ (NoneOf a × FirstOf b n p)
   first_cases n p w = go (answer_of a) refl
     where

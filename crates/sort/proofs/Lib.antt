@@ -1,4 +1,5 @@
 pub mod Waits
+pub mod NumberSearch
 pub mod SearchLoop
 pub mod PlacingLoop
 pub mod Determined
