@@ -5,7 +5,7 @@ use Rattle.std.proofs.Math.Path.{fun_ext}
 use Rattle.std.proofs.Math.ListN.{length-replicate}
 use Rattle.std.proofs.Math.Seq.{sets, sets-eq, length-sets, take-append_seam}
 use Rattle.sets.specs.Bits.{numbers, has, Holds}
-use Rattle.histories.specs.Reasons.{reason}
+use Rattle.histories.specs.Reasons.{edge, reason}
 use Rattle.sets.proofs.Tables.{empty_entry}
 use Rattle.rules.specs.Answer.{gives}
 use Rattle.rules.specs.LogHistory.{history_of}
@@ -45,15 +45,15 @@ pub record SortsLog (log : List ℕ) (answer : Sorted) (buffer : List ℕ) : Typ
   pub in_range : count answer ≤ length buffer
   pub in_front : take (count answer) buffer ≡ members_of (line_or_cycle log)
 
--- so it does by the tables of a log that passes, joined, and its set
-module _ (log : List ℕ) (sound : Passes log) (t : ReasonTables) (w : HoldsEdges log t) where
-  sorted_is : (table : List ℕ) (set : ℕ) → Holds transactions (any_reason t.by_conflict t.by_order t.by_read) table → set ≡ members log
-      → sorted_table table set ≡ line_or_cycle log
-  unfolding line_or_cycle
-  sorted_is table set v e =
-      ap₂ (sorted numbers) (fun_ext (λ i. fun_ext (λ j. (joined_whole log t w v).said i j)))
-      (fun_ext (λ k. ap (λ (s : ℕ). has s k) e ∙ members_hold log sound.in_limits k))
+-- by the table and the set of a log that passes the sort gives its line or cycle
+pub sorted_is : (log : List ℕ) → Passes log → (table : List ℕ) (set : ℕ) → Holds transactions (edge (history_of log)) table → set ≡ members log
+    → sorted_table table set ≡ line_or_cycle log
+unfolding line_or_cycle
+sorted_is log sound table set w e =
+    ap₂ (sorted numbers) (fun_ext (λ i. fun_ext (λ j. w.said i j))) (fun_ext (λ k. ap (λ (s : ℕ). has s k) e ∙ members_hold log sound.in_limits k))
 
+-- so it does by the tables of the three reasons, joined
+module _ (log : List ℕ) (sound : Passes log) (t : ReasonTables) (w : HoldsEdges log t) where
   pub sorts_log : {table buffer : List ℕ} {set : ℕ} {answer : Sorted} → Holds transactions (any_reason t.by_conflict t.by_order t.by_read) table
       → set ≡ members log → SortsTable table set blank answer buffer → SortsLog log answer buffer
   sorts_log {table = table} {buffer = buffer} {set = set} {answer = answer} v e s =
@@ -69,7 +69,7 @@ module _ (log : List ℕ) (sound : Passes log) (t : ReasonTables) (w : HoldsEdge
       xs = members_of (line_or_cycle log)
 
       is : sorted_table table set ≡ line_or_cycle log
-      is = sorted_is table set v e
+      is = sorted_is log sound table set (joined_whole log t w v) e
 
       fits : length xs ≤ transactions
       fits = ordered_fits log sound
