@@ -1,5 +1,6 @@
 -- What two copies into the front of a buffer leave in it.
-use Rattle.std.proofs.Common.{ℕ, ◌+◌, ◌≤◌, arith, ◌≡◌, refl, sym, ◌∙◌, ap, ap₂, List, ◌++◌, length, drop, append_assoc, length-append, take_at, drop_at, drop-drop}
+use Rattle.std.proofs.Common.{ℕ, ◌+◌, ◌≤◌, arith, ◌≡◌, refl, sym, ◌∙◌, ap, ap₂, List, ◌++◌, length, drop}
+use Rattle.std.proofs.Common.{append_assoc, length-append, take_at, drop_at, drop-drop}
 use Rattle.std.proofs.lemmas.List.Edits.{sets, sets-eq}
 use borrow.Rule.Slice.PartMut.{put_mid}
 
