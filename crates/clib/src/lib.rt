@@ -220,13 +220,24 @@ pub extern "C" fn fruscalenta_edge_between(log: &[u8], i: usize, j: usize) -> Co
 // content. C hands over numbers: each is the set of its bits.
 #[unsafe(no_mangle)]
 pub extern "C" fn fruscalenta_sort(
-    table: &[Set; NUMBERS],
+    table: &[u64; NUMBERS],
     set: u64,
     members: &mut [u8; NUMBERS],
 ) -> CodedSorted
     ensures { SortsInC table.now set members.old result members.new }
 {
-    sort(table, Set::of_bits(set), members).into()
+    sort(&sets_of_bits(table), Set::of_bits(set), members).into()
+}
+
+// The sets of a table of numbers, each that of the bits of its number. They are copied, so that nothing has to be known of how a set lies in memory.
+fn sets_of_bits(table: &[u64; NUMBERS]) -> [Set; NUMBERS]
+    ensures { result ≡ table.now }
+{
+    let mut sets = [Set::EMPTY; NUMBERS];
+    for i in 0..NUMBERS {
+        sets[i] = Set::of_bits(table[i]);
+    }
+    sets
 }
 
 // The verdict on a log. The answer records of a line or a cycle are written to the front of the buffer; all other bytes keep their content.

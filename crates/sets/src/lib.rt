@@ -10,9 +10,8 @@ use std::marker::Model;
 // How many numbers there are that a set may have: those below 64.
 pub const NUMBERS: usize = 64;
 
-// A set of numbers below 64. A clause sees it as the number of its bits, and asks `has` of that. C has a uint64_t for one in a table.
+// A set of numbers below 64. A clause sees it as the number of its bits, and asks `has` of that.
 #[derive(Clone, Copy, Debug, PartialEq, Eq)]
-#[repr(C)]
 pub struct Set {
     bits: u64,
 }
